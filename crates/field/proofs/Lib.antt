@@ -1,0 +1,7 @@
+pub mod Comparisons
+pub mod Laws
+pub mod PackedSums
+pub mod Packing
+pub mod ProductTable
+pub mod Stray
+pub mod Vectors

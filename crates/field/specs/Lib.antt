@@ -1,0 +1,4 @@
+pub mod Field
+pub mod Packing
+pub mod ProductTable
+pub mod Vectors

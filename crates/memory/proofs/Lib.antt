@@ -1,0 +1,6 @@
+pub mod Bits
+pub mod Every
+pub mod Lists
+pub mod Parts
+pub mod Stands
+pub mod Comparing
