@@ -4,3 +4,4 @@ pub mod Lists
 pub mod Parts
 pub mod Stands
 pub mod Comparing
+pub mod Words

@@ -1,12 +1,19 @@
 //! The expected output of the test programs: one line a case, the case named, bytes in lower-case
 //! hexadecimal.
 
+use crate::field::pack;
+use crate::forms::{eval_circuit, expand_circuit, linear_values};
+use crate::sampling::{expand_indexes, expand_vectors};
+use crate::sets::{parameters, Parameters};
 use crate::shake::shake256;
+use crate::tree::{get_path, get_path_seeds, get_seeds};
 
 /// What `test_NAME` must print; none for a name that is not known.
 pub fn expected(name: &str) -> Option<String> {
     match name {
         "sponge" => Some(sponge()),
+        "tree" => Some(each_set(tree)),
+        "forms" => Some(each_set(forms)),
         _ => None,
     }
 }
@@ -31,6 +38,88 @@ fn sponge() -> String {
     let name = "long output, bytes 16384 to 16448 of input 136";
     lines += &line(name, &output[16384..]);
     lines
+}
+
+/// The lines of a test for sets 1 to 6.
+fn each_set(lines: fn(usize, &Parameters) -> String) -> String {
+    (1..=6)
+        .map(|set| lines(set, parameters(set).unwrap()))
+        .collect()
+}
+
+/// The seed tree of repetition 3: all leaves, and for the first, the sixth and the last party the
+/// path, and the leaves rebuilt from it, with zeros for the hidden one.
+fn tree(set: usize, p: &Parameters) -> String {
+    let salt = progression(3, 1, 256, p.hash_bytes());
+    let root = progression(5, 2, 256, p.seed_bytes());
+    let e = 3;
+    let leaves = get_seeds(p, &root, &salt, e, p.parties()).concat();
+    let mut lines = line(&format!("set {set}, leaves, digest"), &digest(&leaves));
+    for hidden in [1, 6, p.parties()] {
+        let path = get_path(p, &root, &salt, e, hidden, p.parties());
+        let rebuilt: Vec<Vec<u8>> = get_path_seeds(p, &path, &salt, e, hidden, p.parties())
+            .into_iter()
+            .map(|seed| seed.unwrap_or(vec![0; p.seed_bytes()]))
+            .collect();
+        let case = format!("set {set}, hidden {hidden}");
+        lines += &line(&format!("{case}, path"), &path.concat());
+        lines += &line(
+            &format!("{case}, rebuilt, digest"),
+            &digest(&rebuilt.concat()),
+        );
+    }
+    lines
+}
+
+/// The circuit of a seed, element by element in the order of its expansion; y and t of a secret;
+/// the linear forms of sixteen parties; challenges and hidden parties.
+fn forms(set: usize, p: &Parameters) -> String {
+    let f = expand_circuit(p, &progression(11, 7, 256, p.seed_bytes()));
+    let mut circuit = Vec::new();
+    for j in [1, 2, 0] {
+        circuit.extend(&f.constants[j]);
+        circuit.extend(f.rows[j].concat());
+    }
+    let (y, t) = eval_circuit(&progression(7, 1, 16, p.n), &f);
+    let mut values = Vec::new();
+    for j in [1, 2, 0] {
+        for party in 0..16 {
+            let share = progression(5, 3 * party + 1, 16, p.n);
+            values.extend(linear_values(&f, j, &share));
+        }
+    }
+    let h1 = progression(13, 5, 256, p.hash_bytes());
+    let h2 = progression(17, 9, 256, p.hash_bytes());
+    let challenges = expand_vectors(&h1, p.tau, p.m).concat();
+    let hidden: Vec<u8> = expand_indexes(&h2, p.tau, p.parties().ilog2() as usize)
+        .iter()
+        .map(|party| (party - 1) as u8)
+        .collect();
+    let mut lines = line(&format!("set {set}, circuit, digest"), &digest(&circuit));
+    lines += &line(&format!("set {set}, y packed"), &pack(&y));
+    lines += &line(&format!("set {set}, t packed"), &pack(&t));
+    lines += &line(
+        &format!("set {set}, linear forms of sixteen parties, digest"),
+        &digest(&values),
+    );
+    lines += &line(
+        &format!("set {set}, challenges, digest"),
+        &digest(&challenges),
+    );
+    lines += &line(&format!("set {set}, hidden parties less 1"), &hidden);
+    lines
+}
+
+/// `length` numbers: the i-th is step times i plus start, modulo `modulus`.
+fn progression(step: usize, start: usize, modulus: usize, length: usize) -> Vec<u8> {
+    (0..length)
+        .map(|i| ((step * i + start) % modulus) as u8)
+        .collect()
+}
+
+/// Bytes that are many, as 32 bytes of SHAKE256.
+fn digest(bytes: &[u8]) -> Vec<u8> {
+    shake256(bytes, 32)
 }
 
 /// A message whose byte i is 7i + 3 modulo 256.

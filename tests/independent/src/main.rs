@@ -13,7 +13,7 @@ fn main() {
     match answer {
         Some(text) => print!("{text}"),
         None => {
-            eprintln!("usage: independent expected sponge");
+            eprintln!("usage: independent expected sponge | tree | forms");
             exit(2);
         }
     }
