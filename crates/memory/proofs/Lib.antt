@@ -1,7 +1,10 @@
 pub mod Bits
+pub mod Bytes
+pub mod Comparing
+pub mod Digits
 pub mod Every
 pub mod Lists
 pub mod Parts
 pub mod Stands
-pub mod Comparing
+pub mod Stores
 pub mod Words

@@ -1,0 +1,51 @@
+-- `sponge::part::load2` meets its contract: two bytes, the second above the first, are the number of both.
+-- Assumes nothing.
+use native.Mathlib.Omega.{arith}
+use borrow.Author.Needs.{needs}
+use Rattle.sponge.proofs.Words.{load-one, load-double}
+use Rattle.sponge.proofs.part.load2.Statement.{statement}
+use Rattle.sponge.proofs.part.load2.Tie as tie
+
+shared-slice-read-wide : tie.Need-shared-slice-read-wide
+shared-slice-read-wide c = search needs
+
+wide-requires : tie.Need-wide-requires
+wide-requires c κs = search needs
+
+add-wide : tie.Need-add-wide
+add-wide c = search needs
+
+shared-slice-read-wide-2 : tie.Need-shared-slice-read-wide-2
+shared-slice-read-wide-2 c = search needs
+
+wide-requires-2 : tie.Need-wide-requires-2
+wide-requires-2 c κs = search needs
+
+mul-result : tie.Need-mul-result
+mul-result c = search needs
+
+add-result : tie.Need-add-result
+add-result c = search needs
+
+returns : tie.Need-returns
+returns c =
+    let a = c .before .before .before .before .before .args in (
+      load-double 1 (a .i) (a .bytes .now) _ _
+          (load-one (a .i) (a .bytes .now) _ (c .before .before .wide .ensures .0) (c .before .before .wide .ensures .1) (omega arith))
+          (load-one _ (a .bytes .now) _ (c .wide2 .ensures .0) (c .wide2 .ensures .1) (omega arith))
+          (omega arith),
+      omega arith,
+    )
+
+pub load2-spec : {M : Type 1} → statement M
+load2-spec =
+    tie.close
+    (tie.spec
+    shared-slice-read-wide
+    wide-requires
+    add-wide
+    shared-slice-read-wide-2
+    wide-requires-2
+    mul-result
+    add-result
+    returns)

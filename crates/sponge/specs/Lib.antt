@@ -1,0 +1,2 @@
+pub mod Sponge
+pub mod Steps
