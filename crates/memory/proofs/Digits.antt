@@ -1,6 +1,6 @@
 -- Digits of a number in base two to some power: what stands in n bits from the bit j on, `w / 2 ^ j % 2 ^ n`, of a sum without carries, of a mask,
 -- of a shift and of a multiple, and that a number is fixed by its digits. Assumes nothing.
-use mathlib.Core.Path.{_≡_, refl, sym, ap, ap₂, _∙_}
+use mathlib.Core.Path.{_≡_, sym, ap, ap₂, _∙_}
 use Prim.Native.Nat.{ℕ, zero, suc, _+_, _-_, _*_, _/_, _%_, _^_, _≤_, _<_}
 use native.Mathlib.Nat.{add-comm, mul-comm, mul-zero, mul-suc, mod-one, add-mul, mul-assoc, mul-right-comm, div-add-mod', mul-mod-left, mul-add-mod-self-right, mul-le-mul-right, lt-of-le-of-lt}
 use native.Mathlib.Omega.{arith}
