@@ -1,16 +1,16 @@
 -- The permutation Keccak-f[1600] of FIPS 202, section 3: b = 1600, w = 64, l = 6, 24 rounds.
--- A state array is the list of its 25 lanes: Lane(x, y) of section 3.1.2 stands at place 5y + x, and bit z of a lane is the bit of weight 2^z of its word.
+-- A state array is the list of its 25 lanes: Lane(x, y) of section 3.1.3 stands at place 5y + x, as 3.1.2 has it, and bit z of a lane is the bit of weight 2^z of its word.
 -- Assumes nothing.
 use mathlib.Core.List.{List, [], _∷_}
 use Prim.Native.Nat.{ℕ, zero, suc, _+_, _-_, _*_, _/_, _%_, _^_}
 use lib.ListN.{getD, set}
 use lib.Bits.{bitXor, bitAnd}
 
--- 3.1.2: Lane(x, y) of a state, both taken modulo 5
+-- 3.1.3: Lane(x, y) of a state, both taken modulo 5
 unfoldable pub lane : List ℕ → ℕ → ℕ → ℕ
 lane A x y = getD A (5 * (y % 5) + x % 5) 0
 
--- 3.1.3: the state whose Lane(x, y) is f x y
+-- 3.1.2: the state whose Lane(x, y) is f x y
 unfoldable pub state : (ℕ → ℕ → ℕ) → List ℕ
 state f =
     f 0 0 ∷ f 1 0 ∷ f 2 0 ∷ f 3 0 ∷ f 4 0 ∷
@@ -19,11 +19,11 @@ state f =
     f 0 3 ∷ f 1 3 ∷ f 2 3 ∷ f 3 3 ∷ f 4 3 ∷
     f 0 4 ∷ f 1 4 ∷ f 2 4 ∷ f 3 4 ∷ f 4 4 ∷ []
 
--- the lane whose bit z is bit (z - k) mod 64 of a, for k from 0 to 63
+-- for 3.2.1 and 3.2.2: the lane whose bit z is bit (z - k) mod w of a, for k from 0 to 63
 unfoldable pub rotated : ℕ → ℕ → ℕ
 rotated a k = bitXor (a * 2 ^ k % 2 ^ 64) (a / 2 ^ (64 - k))
 
--- the lane with each bit turned over
+-- for 3.2.4: the lane with each bit turned over, xor 1
 unfoldable pub inverse : ℕ → ℕ
 inverse a = 2 ^ 64 - 1 - a
 

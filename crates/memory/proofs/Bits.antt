@@ -1,10 +1,10 @@
 -- Laws of the operations on bits that the kit lacks: two numbers are equal where their bits are, and what follows digit by digit.
 -- Assumes nothing.
-use mathlib.Core.Path.{_≡_, refl, sym, ap, ap₂, _∙_, subst}
-use Prim.Native.Nat.{ℕ, zero, suc, _+_, _-_, _*_, _/_, _%_, _^_, _≤_, _<_, min, max}
-use native.Mathlib.Nat.{mod-lt, not-suc-le-zero, le-of-suc-le-suc, zero-lt-suc, div-add-mod', pow-suc, lt-of-lt-of-le, le-add-right, le-add-left}
+use mathlib.Core.Path.{_≡_, refl, sym, ap, ap₂, _∙_}
+use Prim.Native.Nat.{ℕ, zero, suc, _+_, _-_, _*_, _/_, _%_, _^_, _<_, min, max}
+use native.Mathlib.Nat.{mod-lt, zero-lt-suc, div-add-mod', pow-suc, lt-of-lt-of-le}
 use native.Mathlib.Omega.{arith}
-use lib.Arith.{lt-one, digits-mod, digits-div}
+use lib.Arith.{lt-one, digits-mod}
 use lib.Pow.{pow-mono, shr-shr}
 use lib.Bits.{bitXor, bitAnd, bitOr, differ, xor-step, and-step, or-step, xor-shr, and-shr, or-shr, xor-comm, xor-self, xor-zero-l, xor-zero-r, xor-add-and, and-mask}
 
@@ -109,25 +109,6 @@ xor-cancel a b = sym (xor-assoc a a b) ∙ ap (λ (n : ℕ). bitXor n b) (xor-se
 -- a sum is 0 only of equal numbers
 pub xor-zero-same : (a b : ℕ) → bitXor a b ≡ 0 → a ≡ b
 xor-zero-same a b e = sym (xor-zero-r a) ∙ ap (bitXor a) (sym e) ∙ xor-cancel a b
-
-pub and-assoc : (a b c : ℕ) → bitAnd (bitAnd a b) c ≡ bitAnd a (bitAnd b c)
-and-assoc a b c = same-bits _ _ (λ i.
-    bit-and (bitAnd a b) c i ∙ ap (λ (n : ℕ). min n (bit c i)) (bit-and a b i)
-    ∙ three-bits (λ (x y z : ℕ). min (min x y) z ≡ min x (min y z)) refl refl refl refl refl refl refl refl (bit a i) (bit b i) (bit c i) (bit-lt a i) (bit-lt b i) (bit-lt c i)
-    ∙ sym (bit-and a (bitAnd b c) i ∙ ap (λ (n : ℕ). min (bit a i) n) (bit-and b c i)))
-
-pub or-assoc : (a b c : ℕ) → bitOr (bitOr a b) c ≡ bitOr a (bitOr b c)
-or-assoc a b c = same-bits _ _ (λ i.
-    bit-or (bitOr a b) c i ∙ ap (λ (n : ℕ). max n (bit c i)) (bit-or a b i)
-    ∙ three-bits (λ (x y z : ℕ). max (max x y) z ≡ max x (max y z)) refl refl refl refl refl refl refl refl (bit a i) (bit b i) (bit c i) (bit-lt a i) (bit-lt b i) (bit-lt c i)
-    ∙ sym (bit-or a (bitOr b c) i ∙ ap (λ (n : ℕ). max (bit a i) n) (bit-or b c i)))
-
--- `and` goes over each side of a sum
-pub and-xor-r : (a b c : ℕ) → bitAnd a (bitXor b c) ≡ bitXor (bitAnd a b) (bitAnd a c)
-and-xor-r a b c = same-bits _ _ (λ i.
-    bit-and a (bitXor b c) i ∙ ap (λ (n : ℕ). min (bit a i) n) (bit-xor b c i)
-    ∙ three-bits (λ (x y z : ℕ). min x (differ y z) ≡ differ (min x y) (min x z)) refl refl refl refl refl refl refl refl (bit a i) (bit b i) (bit c i) (bit-lt a i) (bit-lt b i) (bit-lt c i)
-    ∙ sym (bit-xor (bitAnd a b) (bitAnd a c) i ∙ ap₂ differ (bit-and a b i) (bit-and a c i)))
 
 -- the complement within k bits is a sum with k ones
 pub xor-ones : (k a : ℕ) → a < 2 ^ k → bitXor a (2 ^ k - 1) ≡ 2 ^ k - 1 - a

@@ -5,6 +5,7 @@ pub mod Digits
 pub mod Every
 pub mod Lists
 pub mod Parts
+pub mod Sections
 pub mod Stands
 pub mod Stores
 pub mod Words

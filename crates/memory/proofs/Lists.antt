@@ -1,16 +1,14 @@
--- The laws on lists that later proofs cite: a list by its rule, a part written into a list, sections laid one after another, a list put together again from its parts.
+-- The laws of a list by its rule, `table`, and the room of n parts.
 -- Assumes nothing.
 use mathlib.Core.Path.{_≡_, refl, sym, ap, ap₂, _∙_, subst}
-use mathlib.Core.Bool.{Bool, true, false, _&&_}
-use mathlib.Core.List.{List, [], _∷_, _++_, append-assoc, append-nil}
+use mathlib.Core.List.{List, [], _∷_, _++_}
 use Prim.Native.Nat.{ℕ, zero, suc, _+_, _-_, _*_, _≤_, _<_}
-use native.Mathlib.Nat.{mul-le-mul-right, suc-mul, add-zero}
+use native.Mathlib.Nat.{mul-le-mul-right, suc-mul}
 use native.Mathlib.Decide.{decLt}
 use native.Mathlib.Omega.{arith}
-use lib.Dec.{eqb, eqb→eq, eqb-refl, T}
-use lib.ListN.{length, getD, take, drop, set, length-append, length-take, length-drop, take-append-drop, List·getD-append}
-use lib.Seq.{ext-getD, take-at, drop-at, getD-append-add, getD-take, getD-drop, take-all, drop-drop, take-append-le, drop-append-le, drop-append-add, take-append-add, getD-at, length-take-le, take-suc, drop-nil}
-use Rattle.memory.specs.Lists.{table, over, put, same}
+use lib.ListN.{length, getD, length-append, List·getD-append}
+use lib.Seq.{ext-getD, getD-append-add, getD-at}
+use Rattle.memory.specs.Lists.{table}
 
 -- n parts of w entries each: the i-th has room
 pub room : (i n w : ℕ) → i < n → i * w + w ≤ n * w

@@ -1,12 +1,12 @@
 -- What holds of every set: the sizes of document 01's table follow from the formulas, and the parameters lie within bounds that later crates lean on.
 -- Assumes nothing.
-use mathlib.Core.Path.{_≡_, refl, sym, ap, _∙_}
+use mathlib.Core.Path.{_≡_, refl, sym}
 use mathlib.Core.List.{List, [], _∷_}
-use Prim.Native.Nat.{ℕ, zero, suc, _+_, _*_, _%_, _≤_, _<_}
+use Prim.Native.Nat.{ℕ, zero, suc, _≤_, _<_}
 use native.Mathlib.Omega.{arith}
 use native.Mathlib.Decide.{decLt}
 use lib.Dec.{lit≤, lit<}
-use lib.ListN.{length, getD, List·getD-eq-default}
+use lib.ListN.{getD, List·getD-eq-default}
 use Rattle.memory.proofs.Every.{same-entries}
 use Rattle.field.specs.Packing.{packedLength}
 use Rattle.sets.specs.declared.Params.{Params}

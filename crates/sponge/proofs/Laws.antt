@@ -2,13 +2,13 @@
 -- Assumes nothing.
 use mathlib.Core.Path.{_≡_, refl, sym, ap, _∙_, subst}
 use mathlib.Core.List.{List, _++_}
-use Prim.Native.Nat.{ℕ, suc, _+_, _-_, _*_, _/_, _%_, _≤_, _<_}
+use Prim.Native.Nat.{ℕ, suc, _+_, _-_, _/_, _<_}
 use native.Mathlib.Omega.{arith}
 use lib.ListN.{length, getD, take, replicate}
 use Rattle.sponge.specs.declared.Sponge.{Sponge}
 use Rattle.sponge.specs.declared.Tape.{Tape}
 use Rattle.sponge.specs.Sponge.{rate, padded, absorbing, squeezing, shake256}
-use Rattle.sponge.specs.Steps.{tape, fresh, absorbed, finished, given, moved}
+use Rattle.sponge.specs.Steps.{fresh, absorbed, finished, given, moved}
 use Rattle.sponge.proofs.Absorb as absorb
 use Rattle.sponge.proofs.Squeeze as squeeze
 

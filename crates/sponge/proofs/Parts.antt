@@ -1,8 +1,8 @@
 -- A part of a block goes in three pieces: bytes up to a whole lane, whole words, and the bytes left over. Xored in or given, they are the part.
 -- Assumes nothing.
 use mathlib.Core.Path.{_≡_, refl, sym, ap, ap₂, _∙_}
-use mathlib.Core.List.{List, [], _∷_, _++_}
-use Prim.Native.Nat.{ℕ, zero, suc, _+_, _-_, _*_, _/_, _%_, _≤_, _<_, min}
+use mathlib.Core.List.{List, [], _++_}
+use Prim.Native.Nat.{ℕ, _+_, _-_, _*_, _/_, _%_, _≤_, _<_, min}
 use native.Mathlib.Nat.{sub-zero, add-zero, min-le-left}
 use native.Mathlib.Decide.{decLt}
 use native.Mathlib.Omega.{arith}

@@ -1,16 +1,15 @@
 -- Squeezing: in turns as in one go, within a block by the bytes of the state, and a long output as the blocks of FIPS 202.
 -- Assumes nothing.
 use mathlib.Core.Path.{_≡_, refl, sym, ap, ap₂, _∙_}
-use mathlib.Core.Bool.{Bool, true, false, cond}
+use mathlib.Core.Bool.{Bool, cond}
 use mathlib.Core.List.{List, [], _∷_, _++_, append-assoc, append-nil}
-use Prim.Native.Nat.{ℕ, zero, suc, _+_, _-_, _*_, _/_, _%_, _^_, _≤_, _<_, min}
+use Prim.Native.Nat.{ℕ, zero, suc, _+_, _-_, _*_, _≤_, _<_, min}
 use native.Mathlib.Nat.{add-zero, add-suc, zero-add, mod-lt}
 use native.Mathlib.Decide.{decLt}
 use native.Mathlib.Omega.{arith}
 use borrow.Author.Tests.{lt-ltb, le-ltb}
-use lib.Dec.{ltb}
 use lib.ListN.{length, getD, take, drop, length-append, length-drop}
-use lib.Seq.{take-append-le, take-append-add, take-at, take-nil, length-take-le}
+use lib.Seq.{take-append-le, take-append-add, take-nil, length-take-le}
 use Rattle.memory.specs.Lists.{table, put}
 use Rattle.memory.proofs.Lists.{length-table, table-same}
 use Rattle.memory.proofs.Bytes.{take-table, take-through, getD-snoc-lt}

@@ -1,11 +1,11 @@
 -- Words and bytes: the little-endian number of a list of bytes, the bytes of a number, and how both are put together from shorter ones.
 -- Assumes nothing.
-use mathlib.Core.Path.{_≡_, refl, sym, ap, ap₂, _∙_, subst}
+use mathlib.Core.Path.{_≡_, sym, ap, ap₂, _∙_, subst}
 use mathlib.Core.List.{List, [], _∷_, _++_}
-use Prim.Native.Nat.{ℕ, zero, suc, _+_, _-_, _*_, _/_, _%_, _^_, _≤_, _<_}
-use native.Mathlib.Nat.{mul-left-comm, add-comm, add-assoc, zero-add, zero-mul, mul-assoc, mul-comm, add-mul, mul-one, mul-lt-mul-of-pos-right, mul-add, mod-eq-of-lt, div-one, lt-of-lt-of-le}
+use Prim.Native.Nat.{ℕ, suc, _+_, _-_, _*_, _/_, _%_, _^_, _≤_, _<_}
+use native.Mathlib.Nat.{mul-left-comm, add-comm, zero-add, mul-assoc, mul-comm, add-mul, mul-one, mul-lt-mul-of-pos-right, mul-add, mod-eq-of-lt, div-one, lt-of-lt-of-le}
 use native.Mathlib.Omega.{arith}
-use lib.ListN.{length, getD, take, drop, set, length-append, length-drop}
+use lib.ListN.{length, getD, take, drop, set, length-drop}
 use lib.Seq.{take-add, drop-drop, drop-cons, length-take-le}
 use lib.Pow.{pow-add, pow-pos, pow-mono, shl-exact, shr-shr}
 use lib.Bits.{bitXor, xor-shifted, xor-comm}

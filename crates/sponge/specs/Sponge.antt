@@ -8,7 +8,7 @@ use lib.Bits.{bitXor}
 use Rattle.memory.specs.Lists.{table}
 use Rattle.keccak.specs.Keccak.{keccakF}
 
--- 6.2 with section 4: r = 1600 - c bits, c = 512, in bytes
+-- 5.2 and 6.2: r = 1600 - c bits, c = 512, in bytes
 abbrev pub rate : ℕ
 rate = 136
 
@@ -26,7 +26,7 @@ bits (b ∷ s) = lowBits 8 b ++ bits s
 unfoldable pub pad10*1 : ℕ → ℕ → List ℕ
 pad10*1 x m = 1 ∷ (replicate ((x - (m + 2) % x) % x) 0 ++ (1 ∷ []))
 
--- B.2, table 6: the n + 1 bytes that hold 1111 of 6.2 and the padding
+-- the n + 1 bytes that hold 1111 of 6.2 and the padding of 5.1, least significant bit first (B.1), as B.2 does for the hash functions
 unfoldable pub suffix : ℕ → List ℕ
 suffix zero = 0x9f ∷ []
 suffix (suc n) = 0x1f ∷ (replicate n 0 ++ (0x80 ∷ []))

@@ -91,7 +91,7 @@ fn forms(set: usize, p: &Parameters) -> String {
     let h1 = progression(13, 5, 256, p.hash_bytes());
     let h2 = progression(17, 9, 256, p.hash_bytes());
     let challenges = expand_vectors(&h1, p.tau, p.m).concat();
-    let hidden: Vec<u8> = expand_indexes(&h2, p.tau, p.parties().ilog2() as usize)
+    let hidden: Vec<u8> = expand_indexes(&h2, p.tau, p.levels)
         .iter()
         .map(|party| (party - 1) as u8)
         .collect();

@@ -1,5 +1,6 @@
 //! Values from a tape, algorithms 6 and 7. Nothing is ever rejected, as 16 and N are powers of
-//! two.
+//! two. Where the printed text has sums from k = 1 and ⌊ℓ/8⌋, the sums here start at 0 and the bytes
+//! of an index are ⌈ℓ/8⌉; docs/DECISIONS.md says why.
 
 use crate::shake::Tape;
 

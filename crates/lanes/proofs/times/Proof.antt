@@ -19,16 +19,16 @@ wide-requires : tie.Need-wide-requires
 wide-requires c κs = search needs
 
 mul-result : tie.Need-mul-result
-mul-result c = bit-fits _ (c .wide .result) (c .before .before .before .before .fits .w .fits)
+mul-result c = bit-fits _ _ (c .before .before .before .before .fits .w .fits)
 
 mul-result-2 : tie.Need-mul-result-2
-mul-result-2 c = bit-fits _ (c .wide .result / 2) (c .before .before .before .doubled .ok)
+mul-result-2 c = bit-fits _ _ (c .before .before .before .doubled .ok)
 
 mul-result-3 : tie.Need-mul-result-3
-mul-result-3 c = bit-fits _ (c .wide .result / 4) (c .before .before .doubled2 .ok)
+mul-result-3 c = bit-fits _ _ (c .before .before .doubled2 .ok)
 
 mul-result-4 : tie.Need-mul-result-4
-mul-result-4 c = bit-fits _ (c .wide .result / 8) (c .before .doubled3 .ok)
+mul-result-4 c = bit-fits _ _ (c .before .doubled3 .ok)
 
 returns : tie.Need-returns
 returns c = times-lanes _ _ _ _ (c .before .before .before .doubled .ensures) (c .before .before .doubled2 .ensures) (c .before .doubled3 .ensures) _ _ (c .wide .ensures .0)

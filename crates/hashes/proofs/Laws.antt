@@ -1,0 +1,106 @@
+-- The fields of a use laid one after another in a block, the laws that callers cite, and the close comparison of document 01.
+-- Assumes nothing.
+use mathlib.Core.Path.{_≡_, refl, ap, ap₂, _∙_}
+use mathlib.Core.List.{List, [], _∷_, _++_, append-assoc}
+use Prim.Native.Nat.{ℕ, _+_, _-_, _*_, _/_, _%_, _<_}
+use native.Mathlib.Nat.{sub-zero}
+use native.Mathlib.Omega.{arith}
+use lib.ListN.{length, take, drop, set, length-append}
+use lib.Seq.{take-at}
+use Rattle.memory.specs.Lists.{put}
+use Rattle.memory.proofs.Parts.{set-put, put-section}
+use Rattle.sponge.specs.declared.Sponge.{Sponge}
+use Rattle.sponge.specs.Steps.{fresh, absorbed, finished, given}
+use Rattle.sponge.proofs.Laws.{absorbed-append, given-shake256, length-shake256}
+use Rattle.hashes.specs.Hashes.{enc16, commit, childSeeds, firstHash, secondHash, firstFields, secondFields, tapeFields, hash1, hash2, expandTape}
+
+-- document 01, "16-bit 256 is 00 01"
+pub enc16-256 : enc16 256 ≡ 0x00 ∷ 0x01 ∷ []
+unfolding enc16
+enc16-256 = refl
+
+pub length-commit : (S : ℕ) (salt : List ℕ) (e i : ℕ) (seed : List ℕ) → length (commit S salt e i seed) ≡ 2 * S
+unfolding commit
+length-commit S salt e i seed = length-shake256 _ (2 * S)
+
+pub length-childSeeds : (S : ℕ) (salt : List ℕ) (e k j : ℕ) (seed : List ℕ) → length (childSeeds S salt e k j seed) ≡ 2 * S
+unfolding childSeeds
+length-childSeeds S salt e k j seed = length-shake256 _ (2 * S)
+
+-- the two long hashes, once the rest is absorbed
+pub first-absorbed : (salt msg σ₁ : List ℕ) → absorbed (absorbed (absorbed fresh (firstHash ∷ salt)) msg) σ₁ ≡ absorbed fresh (firstFields salt msg σ₁)
+unfolding firstFields
+first-absorbed salt msg σ₁ =
+    ap (λ s. absorbed s σ₁) (absorbed-append fresh (firstHash ∷ salt) msg)
+    ∙ absorbed-append fresh (firstHash ∷ (salt ++ msg)) σ₁
+    ∙ ap (λ (m : List ℕ). absorbed fresh (firstHash ∷ m)) (append-assoc salt msg σ₁)
+
+pub second-absorbed : (salt h₁ σ₂ : List ℕ) → absorbed (absorbed fresh (secondHash ∷ (salt ++ h₁))) σ₂ ≡ absorbed fresh (secondFields salt h₁ σ₂)
+unfolding secondFields
+second-absorbed salt h₁ σ₂ =
+    absorbed-append fresh (secondHash ∷ (salt ++ h₁)) σ₂
+    ∙ ap (λ (m : List ℕ). absorbed fresh (secondHash ∷ m)) (append-assoc salt h₁ σ₂)
+
+-- what their tapes give, and the tape of a party
+pub given-first : (S : ℕ) (salt msg σ₁ : List ℕ) → given (finished (absorbed fresh (firstFields salt msg σ₁))) (2 * S) ≡ hash1 S salt msg σ₁
+unfolding hash1
+given-first S salt msg σ₁ = given-shake256 (firstFields salt msg σ₁) (2 * S)
+
+pub given-second : (S : ℕ) (salt h₁ σ₂ : List ℕ) → given (finished (absorbed fresh (secondFields salt h₁ σ₂))) (2 * S) ≡ hash2 S salt h₁ σ₂
+unfolding hash2
+given-second S salt h₁ σ₂ = given-shake256 (secondFields salt h₁ σ₂) (2 * S)
+
+pub given-tape : (salt : List ℕ) (e i : ℕ) (seed : List ℕ) (n : ℕ) → given (finished (absorbed fresh (tapeFields salt e i seed))) n ≡ expandTape salt e i seed n
+unfolding expandTape
+given-tape salt e i seed n = given-shake256 (tapeFields salt e i seed) n
+
+-- a byte and three fields laid one after another in a block
+set-first : (block : List ℕ) (byte : ℕ) → 0 < length block → set block 0 byte ≡ (byte ∷ []) ++ drop 1 block
+unfolding put
+set-first block byte h = set-put block 0 byte h
+
+laid : (block : List ℕ) (byte : ℕ) (salt numbers seed : List ℕ) → 0 < length block →
+    put (put (put (set block 0 byte) 1 salt) (1 + length salt) numbers) (1 + length salt + length numbers) seed
+    ≡ (byte ∷ (salt ++ (numbers ++ seed))) ++ drop (1 + length salt + length numbers + length seed) block
+laid block byte salt numbers seed h =
+    ap (λ (x : List ℕ). put (put (put x 1 salt) (1 + length salt) numbers) (1 + length salt + length numbers) seed) (set-first block byte h)
+    ∙ ap (λ (x : List ℕ). put (put x (1 + length salt) numbers) (1 + length salt + length numbers) seed) (put-section (byte ∷ []) block 1 salt refl)
+    ∙ ap (λ (x : List ℕ). put x (1 + length salt + length numbers) seed) (put-section (byte ∷ salt) block (1 + length salt) numbers (omega arith))
+    ∙ put-section (byte ∷ (salt ++ numbers)) block (1 + length salt + length numbers) seed (simp length-append (omega arith))
+    ∙ ap (λ (x : List ℕ). (byte ∷ x) ++ drop (1 + length salt + length numbers + length seed) block) (append-assoc salt numbers seed)
+
+take-laid : (block : List ℕ) (byte : ℕ) (salt numbers seed : List ℕ) → 0 < length block →
+    take (1 + length salt + length numbers + length seed) (put (put (put (set block 0 byte) 1 salt) (1 + length salt) numbers) (1 + length salt + length numbers) seed)
+    ≡ byte ∷ (salt ++ (numbers ++ seed))
+take-laid block byte salt numbers seed h =
+    ap (take (1 + length salt + length numbers + length seed)) (laid block byte salt numbers seed h)
+    ∙ take-at (byte ∷ (salt ++ (numbers ++ seed))) (drop (1 + length salt + length numbers + length seed) block) (1 + length salt + length numbers + length seed) (simp length-append (omega arith))
+
+-- the same in turns, as the code has it
+pub take-assembled : (block : List ℕ) (byte : ℕ) (salt numbers seed x y z : List ℕ) (a b n : ℕ) → 0 < length block →
+    a ≡ 1 + length salt → x ≡ put (set block 0 byte) 1 salt → b ≡ a + length numbers → y ≡ put x a numbers → n ≡ b + length seed → z ≡ put y b seed →
+    take n z ≡ byte ∷ (salt ++ (numbers ++ seed))
+take-assembled block byte salt numbers seed x y z a b n h ea ex eb ey en ez =
+    let together : take n z ≡ take (1 + length salt + length numbers + length seed) (put (put (put (set block 0 byte) 1 salt) (1 + length salt) numbers) (1 + length salt + length numbers) seed) = cc in
+    together ∙ take-laid block byte salt numbers seed h
+
+-- what `fields` absorbs
+pub absorbed-taken : (block fields : List ℕ) (n : ℕ) (s r : Sponge) → take n block ≡ fields → s ≡ fresh → r ≡ absorbed s (take (n - 0) (drop 0 block)) → r ≡ absorbed fresh fields
+absorbed-taken block fields n s r e f g =
+    g ∙ ap₂ absorbed f (ap (λ (k : ℕ). take k block) (sub-zero n) ∙ e)
+
+-- a byte and then a list are absorbed as one
+pub absorbed-after-byte : (byte : ℕ) (salt : List ℕ) (s t u : Sponge) → s ≡ fresh → t ≡ absorbed s (byte ∷ []) → u ≡ absorbed t salt → u ≡ absorbed fresh (byte ∷ salt)
+absorbed-after-byte byte salt s t u e f g =
+    g ∙ ap (λ (x : Sponge). absorbed x salt) (f ∙ ap (λ (x : Sponge). absorbed x (byte ∷ [])) e) ∙ absorbed-append fresh (byte ∷ []) salt
+
+-- the bytes of two numbers, and of three
+pub two-numbers : (e i a b c d : ℕ) (seed : List ℕ) → a ≡ e % 256 → b ≡ e / 256 % 256 → c ≡ i % 256 → d ≡ i / 256 % 256 →
+    (a ∷ b ∷ c ∷ d ∷ []) ++ seed ≡ enc16 e ++ (enc16 i ++ seed)
+unfolding enc16
+two-numbers e i a b c d seed ea eb ec ed = cc
+
+pub three-numbers : (e k j a b c d f g : ℕ) (seed : List ℕ) → a ≡ e % 256 → b ≡ e / 256 % 256 → c ≡ k % 256 → d ≡ k / 256 % 256 → f ≡ j % 256 → g ≡ j / 256 % 256 →
+    (a ∷ b ∷ c ∷ d ∷ f ∷ g ∷ []) ++ seed ≡ enc16 e ++ (enc16 k ++ (enc16 j ++ seed))
+unfolding enc16
+three-numbers e k j a b c d f g seed ea eb ec ed ef eg = cc
