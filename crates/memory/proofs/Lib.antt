@@ -1,11 +1,14 @@
 pub mod Bits
 pub mod Bytes
 pub mod Comparing
+pub mod Copied
 pub mod Digits
 pub mod Every
+pub mod Groups
 pub mod Lists
 pub mod Parts
 pub mod Sections
 pub mod Stands
 pub mod Stores
 pub mod Words
+pub mod Xors

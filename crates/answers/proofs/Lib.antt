@@ -1,0 +1,6 @@
+pub mod Absorbing
+pub mod Passing
+pub mod Sizes
+pub mod Turning
+pub mod Values
+pub mod OneAlpha

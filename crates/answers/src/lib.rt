@@ -1,0 +1,317 @@
+// The answers of one repetition for N parties, sixteen in the lanes of a word, for signing and verifying alike: every α and then every v goes into the second hash.
+// No secret picks a branch or an address; the numbers of the repetition and of the hidden party are public.
+use group::Rep;
+use sponge::Sponge;
+ghost use mathlib.Core.Path.{_≡_};
+ghost use mathlib.Core.List.{List, flatten};
+ghost use Prim.Native.Nat.{ℕ, suc, _+_, _*_, _≤_, _<_};
+ghost use lib.ListN.{length, take, drop};
+ghost use Rattle.field.specs.Packing.{Elements, pack};
+ghost use Rattle.sets.specs.declared.Params.{Params};
+ghost use Rattle.sponge.specs.Steps.{absorbed};
+ghost use Rattle.forms.specs.Circuit.{Circuit};
+ghost use Rattle.forms.specs.Room.{circuitLength, circuitIn, HoldsCircuit};
+ghost use Rattle.field.specs.Vectors.{_!_};
+ghost use Rattle.lanes.specs.Lanes.{lane};
+ghost use Rattle.marks.specs.Marks.{EachWord};
+ghost use Rattle.parties.specs.Parties.{corrected, alphaOf};
+ghost use Rattle.parties.specs.Repetition.{rawShare};
+ghost use Rattle.group.specs.Shares.{Sized, valuesLength, deltaS, deltaC, epsilon, sampled, TapeStored};
+ghost use Rattle.answers.specs.Answers.{sharesOf, answered};
+ghost use Rattle.answers.specs.Passes.{alphasOf, secondFormsOf, restsOf, Packs, InLanes, Turn, Passed, HoldsGroup, Zeros, VWords, VsOf, Folded};
+
+// The most equations that a set has.
+const EQUATIONS: usize = 121;
+
+// The words that hold sixteen tapes.
+const TAPES: usize = 368;
+
+// The second hash with every α and then every v of a repetition absorbed.
+pub fn answers(
+    sponge: Sponge,
+    rep: Rep,
+    salt: &[u8],
+    leaves: &[u8],
+    circuit: &[u8],
+    values: &[u8],
+    room: &mut [u8],
+) -> Sponge
+    requires { ⌜ (Sized rep) × (0 < rep .groups) × (length (now salt) ≤ 64) × (length (now leaves) ≡ 16 * rep .groups * rep .s) × (length (now circuit) ≡ circuitLength (rep .n) (rep .m)) × (length (now values) ≡ valuesLength rep) × (Elements (now values)) × (length (now room) ≡ rep .groups * (16 * rep .m)) ⌝ }
+    ensures { λ r. ⌜ ((P : Params) (f : Circuit) → P .n ≡ rep .n → P .m ≡ rep .m → HoldsCircuit (rep .n) (rep .m) f (now (circuit .entry)) → r ≡ absorbed sponge (answered f rep (now (values .entry)) (sharesOf P rep (now (salt .entry)) (now (leaves .entry)) (now (values .entry))))) ⌝ }
+{
+    let m = rep.m;
+    let mut sa = [0u64; EQUATIONS];
+    let mut sy = [0u64; EQUATIONS];
+    let mut sw = [0u64; EQUATIONS];
+    let first = first_pass(
+        sponge,
+        rep,
+        salt,
+        leaves,
+        circuit,
+        values,
+        &mut sa[0..m],
+        &mut sy[0..m],
+        &mut sw[0..m],
+        room,
+    );
+    finish(first, rep, &sa[0..m], &mut sy[0..m], &sw[0..m], room)
+}
+
+// Algorithm 12, line 27, for one party: the α of party i with this seed, an element to a byte.
+pub fn alpha_of(
+    rep: Rep,
+    salt: &[u8],
+    circuit: &[u8],
+    values: &[u8],
+    i: usize,
+    seed: &[u8],
+    out: &mut [u8],
+)
+    requires { ⌜ (Sized rep) × (rep .hidden ≡ 0) × (0 < i) × (i ≤ 4096) × (length (now salt) ≤ 64) × (length (now circuit) ≡ circuitLength (rep .n) (rep .m)) × (length (now values) ≡ valuesLength rep) × (Elements (now values)) × (length (now seed) ≤ 32) × (length (now out) ≡ rep .m) ⌝ }
+    ensures { λ r. ⌜ ((P : Params) (f : Circuit) → P .n ≡ rep .n → P .m ≡ rep .m → HoldsCircuit (rep .n) (rep .m) f (now (circuit .entry)) → now (out .exit) ≡ alphaOf f (epsilon rep (now (values .entry))) i (corrected (deltaS rep (now (values .entry))) (deltaC rep (now (values .entry))) i (rawShare P (now (salt .entry)) (rep .e) i (now (seed .entry))))) ⌝ }
+{
+    let p = i - 1;
+    let q = p % 16;
+    let mut tapes = [0u64; TAPES];
+    group::one_tape(rep, salt, i, seed, q, &mut tapes);
+    alpha_lane(rep, p / 16, circuit, values, &tapes, q, out);
+}
+
+// The α of the party in lane q of group g, whose tape stands in that lane.
+fn alpha_lane(
+    rep: Rep,
+    g: usize,
+    circuit: &[u8],
+    values: &[u8],
+    tapes: &[u64],
+    q: usize,
+    out: &mut [u8],
+)
+    requires { ⌜ (Sized rep) × (rep .hidden ≡ 0) × (g < 256) × (q < 16) × (length (now circuit) ≡ circuitLength (rep .n) (rep .m)) × (length (now values) ≡ valuesLength rep) × (Elements (now values)) × (length (now tapes) ≡ 368) × (length (now out) ≡ rep .m) ⌝ }
+    ensures { λ r. ⌜ ((tape before : List ℕ) → TapeStored q tape before (now (tapes .entry)) → now (out .exit) ≡ alphaOf (circuitIn (rep .n) (rep .m) (now (circuit .entry))) (epsilon rep (now (values .entry))) (suc (16 * g + q)) (corrected (deltaS rep (now (values .entry))) (deltaC rep (now (values .entry))) (suc (16 * g + q)) (sampled rep tape))) ⌝ }
+{
+    let m = rep.m;
+    let mut x = [0u64; EQUATIONS];
+    let mut y = [0u64; EQUATIONS];
+    let mut z = [0u64; EQUATIONS];
+    group::of_tapes(
+        rep,
+        g,
+        circuit,
+        values,
+        tapes,
+        &mut x[0..m],
+        &mut y[0..m],
+        &mut z[0..m],
+    );
+    lane_into(&x[0..m], q, out);
+}
+
+// Lane q of each word.
+fn lane_into(words: &[u64], q: usize, out: &mut [u8])
+    requires { ⌜ (length (now words) ≡ length (now out)) × (q < 16) ⌝ }
+    ensures { λ r. ⌜ EachWord (λ k x y. y ≡ lane q (now (words .entry) ! k)) (now (out .entry)) (now (out .exit)) ⌝ }
+{
+    let mut k = 0;
+    while k < out.len() {
+        out[k] = ((words[k] >> (4 * q)) % 16) as u8;
+        k += 1;
+    }
+}
+
+// Every α absorbed; the sums over the parties, and y and z·ε + c of each group, are kept.
+fn first_pass(
+    sponge: Sponge,
+    rep: Rep,
+    salt: &[u8],
+    leaves: &[u8],
+    circuit: &[u8],
+    values: &[u8],
+    sa: &mut [u64],
+    sy: &mut [u64],
+    sw: &mut [u64],
+    room: &mut [u8],
+) -> Sponge
+    requires { ⌜ (Sized rep) × (0 < rep .groups) × (length (now salt) ≤ 64) × (length (now leaves) ≡ 16 * rep .groups * rep .s) × (length (now circuit) ≡ circuitLength (rep .n) (rep .m)) × (length (now values) ≡ valuesLength rep) × (Elements (now values)) × (length (now sa) ≡ rep .m) × (length (now sy) ≡ rep .m) × (length (now sw) ≡ rep .m) × (Zeros (now sa)) × (Zeros (now sy)) × (Zeros (now sw)) × (length (now room) ≡ rep .groups * (16 * rep .m)) ⌝ }
+    ensures absorbs { λ r. ⌜ r ≡ absorbed sponge (pack (flatten (alphasOf rep (now (circuit .entry)) (now (salt .entry)) (now (leaves .entry)) (now (values .entry))))) ⌝ }
+    ensures keeps { λ r. ⌜ Passed (rep .groups) (rep .m) (alphasOf rep (now (circuit .entry)) (now (salt .entry)) (now (leaves .entry)) (now (values .entry))) (secondFormsOf rep (now (circuit .entry)) (now (salt .entry)) (now (leaves .entry)) (now (values .entry))) (restsOf rep (now (circuit .entry)) (now (salt .entry)) (now (leaves .entry)) (now (values .entry))) (now (sa .exit)) (now (sy .exit)) (now (sw .exit)) (now (room .exit)) ⌝ }
+{
+    let size = 16 * rep.m;
+    let groups = rep.groups;
+    let mut s = sponge;
+    let mut g = 0;
+    while g < groups {
+        let a = g * size;
+        let e = a + size;
+        let t = turn(
+            s,
+            rep,
+            g,
+            salt,
+            leaves,
+            circuit,
+            values,
+            sa,
+            sy,
+            sw,
+            &mut room[a..e],
+        );
+        s = t;
+        g += 1;
+    }
+    s
+}
+
+// One group: its α absorbed, its vectors added to the sums, and y and z·ε + c kept.
+fn turn(
+    sponge: Sponge,
+    rep: Rep,
+    g: usize,
+    salt: &[u8],
+    leaves: &[u8],
+    circuit: &[u8],
+    values: &[u8],
+    sa: &mut [u64],
+    sy: &mut [u64],
+    sw: &mut [u64],
+    part: &mut [u8],
+) -> Sponge
+    requires { ⌜ (Sized rep) × (g < rep .groups) × (length (now salt) ≤ 64) × (length (now leaves) ≡ 16 * rep .groups * rep .s) × (length (now circuit) ≡ circuitLength (rep .n) (rep .m)) × (length (now values) ≡ valuesLength rep) × (Elements (now values)) × (length (now sa) ≡ rep .m) × (length (now sy) ≡ rep .m) × (length (now sw) ≡ rep .m) × (length (now part) ≡ 16 * rep .m) ⌝ }
+    ensures { λ r. ⌜ Turn g (rep .m) (alphasOf rep (now (circuit .entry)) (now (salt .entry)) (now (leaves .entry)) (now (values .entry))) (secondFormsOf rep (now (circuit .entry)) (now (salt .entry)) (now (leaves .entry)) (now (values .entry))) (restsOf rep (now (circuit .entry)) (now (salt .entry)) (now (leaves .entry)) (now (values .entry))) sponge (now (sa .entry)) (now (sy .entry)) (now (sw .entry)) (now (sa .exit)) (now (sy .exit)) (now (sw .exit)) (now (part .exit)) r ⌝ }
+{
+    let m = rep.m;
+    let mut x = [0u64; EQUATIONS];
+    let mut y = [0u64; EQUATIONS];
+    let mut z = [0u64; EQUATIONS];
+    group::group(
+        rep,
+        g,
+        salt,
+        leaves,
+        circuit,
+        values,
+        &mut x[0..m],
+        &mut y[0..m],
+        &mut z[0..m],
+    );
+    taken(sponge, &x[0..m], &y[0..m], &z[0..m], sa, sy, sw, part)
+}
+
+// α absorbed; α, y and z·ε + c added to the sums; y and then z·ε + c written to the bytes.
+fn taken(
+    sponge: Sponge,
+    x: &[u64],
+    y: &[u64],
+    z: &[u64],
+    sa: &mut [u64],
+    sy: &mut [u64],
+    sw: &mut [u64],
+    part: &mut [u8],
+) -> Sponge
+    requires { ⌜ (16 ≤ length (now x)) × (length (now x) ≤ 121) × (length (now y) ≡ length (now x)) × (length (now z) ≡ length (now x)) × (length (now sa) ≡ length (now x)) × (length (now sy) ≡ length (now x)) × (length (now sw) ≡ length (now x)) × (length (now part) ≡ 16 * length (now x)) ⌝ }
+    ensures { λ r. ⌜ ((g : ℕ) (αs ys ws : List (List ℕ)) → Packs (take 16 (drop (16 * g) αs)) (now (x .entry)) → InLanes g αs (now (x .entry)) → InLanes g ys (now (y .entry)) → InLanes g ws (now (z .entry)) → Turn g (length (now (x .entry))) αs ys ws sponge (now (sa .entry)) (now (sy .entry)) (now (sw .entry)) (now (sa .exit)) (now (sy .exit)) (now (sw .exit)) (now (part .exit)) r) ⌝ }
+{
+    let half = 8 * x.len();
+    let end = half + half;
+    marks::add_words(sa, x);
+    marks::add_words(sy, y);
+    marks::add_words(sw, z);
+    marks::store_words(y, &mut part[0..half]);
+    marks::store_words(z, &mut part[half..end]);
+    absorb_group(sponge, x)
+}
+
+// The vectors of sixteen parties, packed together and absorbed.
+fn absorb_group(sponge: Sponge, words: &[u64]) -> Sponge
+    requires { ⌜ (16 ≤ length (now words)) × (length (now words) ≤ 121) ⌝ }
+    ensures { λ r. ⌜ ((vs : List (List ℕ)) → Packs vs (now (words .entry)) → r ≡ absorbed sponge (pack (flatten vs))) ⌝ }
+{
+    let mut packed = [0u8; 968];
+    absorb_packed(sponge, words, &mut packed)
+}
+
+// The same, with room for the packed vectors.
+fn absorb_packed(sponge: Sponge, words: &[u64], packed: &mut [u8]) -> Sponge
+    requires { ⌜ (16 ≤ length (now words)) × (length (now words) ≤ 121) × (length (now packed) ≡ 968) ⌝ }
+    ensures { λ r. ⌜ ((vs : List (List ℕ)) → Packs vs (now (words .entry)) → r ≡ absorbed sponge (pack (flatten vs))) ⌝ }
+{
+    let n = 8 * words.len();
+    lanes::pack_parties(words, packed);
+    sponge.absorb(&packed[0..n])
+}
+
+// The rest of the answers once all α are absorbed: the sum of all α, the hidden v, and every v absorbed.
+fn finish(sponge: Sponge, rep: Rep, sa: &[u64], sy: &mut [u64], sw: &[u64], room: &[u8]) -> Sponge
+    requires { ⌜ (Sized rep) × (0 < rep .groups) × (length (now sa) ≡ rep .m) × (length (now sy) ≡ rep .m) × (length (now sw) ≡ rep .m) × (length (now room) ≡ rep .groups * (16 * rep .m)) ⌝ }
+    ensures { λ r. ⌜ ((ys ws vs : List (List ℕ)) → ((alpha given : List ℕ) → Folded (rep .m) (now (sa .entry)) (now (sy .entry)) (now (sw .entry)) alpha given → VsOf rep alpha given ys ws vs) → ((g : ℕ) → g < rep .groups → HoldsGroup g (rep .m) ys ws (take (16 * rep .m) (drop (g * (16 * rep .m)) (now (room .entry))))) → r ≡ absorbed sponge (pack (flatten vs))) ⌝ }
+{
+    let m = rep.m;
+    let mut alpha = [0u8; EQUATIONS];
+    let mut given = [0u8; EQUATIONS];
+    folds(sa, sy, sw, &mut alpha[0..m], &mut given[0..m]);
+    second_pass(sponge, rep, &alpha[0..m], &given[0..m], room)
+}
+
+// The sum of all α, and the sum of all v but the hidden party's.
+fn folds(sa: &[u64], sy: &mut [u64], sw: &[u64], alpha: &mut [u8], given: &mut [u8])
+    requires { ⌜ (length (now sy) ≡ length (now sa)) × (length (now sw) ≡ length (now sa)) × (length (now alpha) ≡ length (now sa)) × (length (now given) ≡ length (now sa)) ⌝ }
+    ensures { λ r. ⌜ Folded (length (now (sa .entry))) (now (sa .entry)) (now (sy .entry)) (now (sw .entry)) (now (alpha .exit)) (now (given .exit)) ⌝ }
+{
+    marks::fold_into(sa, alpha);
+    marks::multiply_add(sy, alpha, sw);
+    marks::fold_into(sy, given);
+}
+
+// Every v absorbed, group after group.
+fn second_pass(sponge: Sponge, rep: Rep, alpha: &[u8], given: &[u8], room: &[u8]) -> Sponge
+    requires { ⌜ (Sized rep) × (0 < rep .groups) × (length (now alpha) ≡ rep .m) × (length (now given) ≡ rep .m) × (Elements (now given)) × (length (now room) ≡ rep .groups * (16 * rep .m)) ⌝ }
+    ensures { λ r. ⌜ ((ys ws vs : List (List ℕ)) → VsOf rep (now (alpha .entry)) (now (given .entry)) ys ws vs → ((g : ℕ) → g < rep .groups → HoldsGroup g (rep .m) ys ws (take (16 * rep .m) (drop (g * (16 * rep .m)) (now (room .entry))))) → r ≡ absorbed sponge (pack (flatten vs))) ⌝ }
+{
+    let size = 16 * rep.m;
+    let groups = rep.groups;
+    let mut s = sponge;
+    let mut g = 0;
+    while g < groups {
+        let a = g * size;
+        let e = a + size;
+        let t = v_turn(s, rep, g, alpha, given, &room[a..e]);
+        s = t;
+        g += 1;
+    }
+    s
+}
+
+// The v of one group absorbed.
+fn v_turn(sponge: Sponge, rep: Rep, g: usize, alpha: &[u8], given: &[u8], part: &[u8]) -> Sponge
+    requires { ⌜ (Sized rep) × (g < rep .groups) × (length (now alpha) ≡ rep .m) × (length (now given) ≡ rep .m) × (Elements (now given)) × (length (now part) ≡ 16 * rep .m) ⌝ }
+    ensures { λ r. ⌜ ((ys ws vs : List (List ℕ)) → VsOf rep (now (alpha .entry)) (now (given .entry)) ys ws vs → HoldsGroup g (rep .m) ys ws (now (part .entry)) → r ≡ absorbed sponge (pack (flatten (take 16 (drop (16 * g) vs))))) ⌝ }
+{
+    let m = rep.m;
+    let mut y = [0u64; EQUATIONS];
+    let mut w = [0u64; EQUATIONS];
+    v_words(rep, g, alpha, given, part, &mut y[0..m], &mut w[0..m]);
+    absorb_group(sponge, &y[0..m])
+}
+
+// The v of sixteen parties: y times the sum of all α, plus z·ε + c, and at the hidden party the sum of the others.
+fn v_words(
+    rep: Rep,
+    g: usize,
+    alpha: &[u8],
+    given: &[u8],
+    part: &[u8],
+    y: &mut [u64],
+    w: &mut [u64],
+)
+    requires { ⌜ (Sized rep) × (g < rep .groups) × (length (now alpha) ≡ rep .m) × (length (now given) ≡ rep .m) × (Elements (now given)) × (length (now part) ≡ 16 * rep .m) × (length (now y) ≡ rep .m) × (length (now w) ≡ rep .m) ⌝ }
+    ensures { λ r. ⌜ VWords rep g (now (alpha .entry)) (now (given .entry)) (now (part .entry)) (now (y .exit)) ⌝ }
+{
+    let half = 8 * rep.m;
+    let end = half + half;
+    let hide = marks::mark(g, rep.hidden);
+    marks::load_words(&part[0..half], y);
+    marks::load_words(&part[half..end], w);
+    marks::multiply_add(y, alpha, w);
+    marks::add_marked(y, given, hide);
+}

@@ -1,0 +1,15 @@
+pub mod Accepted
+pub mod Assembled
+pub mod Comparisons
+pub mod Genuine
+pub mod Keys
+pub mod OneOutcome
+pub mod Outcomes
+pub mod Places
+pub mod ReadBack
+pub mod Refusals
+pub mod Repeated
+pub mod Room
+pub mod SignSized
+pub mod SignedIsAccepted
+pub mod Written

@@ -1,0 +1,105 @@
+-- Repetitions laid one behind the other: how long they are together, where each of them stands, and that they go by their values from 1 to τ alone.
+-- Here too are the steps of reading a layout that the crate memory lacks. Assumes nothing.
+use mathlib.Core.Path.{_≡_, refl, sym, ap, ap₂, _∙_, subst}
+use mathlib.Core.List.{List, _++_}
+use Prim.Native.Nat.{ℕ, zero, suc, _+_, _-_, _*_, _≤_, _<_}
+use native.Mathlib.Nat.{zero-add, add-zero, add-assoc, suc-mul, zero-mul}
+use native.Mathlib.Decide.{decLt}
+use native.Mathlib.Omega.{arith}
+use lib.ListN.{length, getD, take, drop, length-append, length-take, take-append-drop, List·getD-append, List·getD-eq-default}
+use lib.Seq.{drop-drop, getD-append-add, getD-take, getD-drop}
+use Rattle.memory.specs.Lists.{StandsAt}
+use Rattle.memory.proofs.Stands.{stands-before, stands-behind, stands-part}
+use Rattle.field.specs.Packing.{Elements}
+use Rattle.biscuit.specs.Signature.{repeated}
+
+-- ---- what stands in a list
+
+pub stands-self : (x : List ℕ) → StandsAt x 0 x
+stands-self x = record { fits = omega arith; entry = λ i h. ap (λ (k : ℕ). getD x k 0) (zero-add i) }
+
+-- what stands in a part stands in the whole
+pub stands-within : (x : List ℕ) (k : ℕ) (u : List ℕ) (j : ℕ) (v : List ℕ) → StandsAt x k u → StandsAt u j v → StandsAt x (k + j) v
+stands-within x k u j v s t = record {
+  fits = (let a = s .fits in let b = t .fits in omega arith);
+  entry = λ i h.
+      ap (λ (n : ℕ). getD x n 0) (add-assoc k j i) ∙ s .entry (j + i) (let b = t .fits in omega arith) ∙ t .entry i h;
+}
+
+-- what stands somewhere is read there
+pub stands-read : (x : List ℕ) (k : ℕ) (v : List ℕ) (n : ℕ) → length v ≡ n → StandsAt x k v → take n (drop k x) ≡ v
+stands-read x k v n e s = ap (λ (m : ℕ). take m (drop k x)) (sym e) ∙ stands-part x k v s
+
+-- from there on the list begins with it
+pub stands-drop : (x : List ℕ) (k : ℕ) (v : List ℕ) → StandsAt x k v → drop k x ≡ v ++ drop (k + length v) x
+stands-drop x k v s =
+    sym (take-append-drop (length v) (drop k x)) ∙ ap₂ (λ (a b : List ℕ). a ++ b) (stands-part x k v s) (drop-drop (length v) k x)
+
+-- ---- repetitions
+
+pub repeated-suc : (τ : ℕ) (f : ℕ → List ℕ) → repeated (suc τ) f ≡ repeated τ f ++ f (suc τ)
+unfolding repeated
+repeated-suc τ f = refl
+
+-- the values from 1 to τ decide
+pub repeated-same : (τ : ℕ) (f g : ℕ → List ℕ) → ((e : ℕ) → 1 ≤ e → e ≤ τ → f e ≡ g e) → repeated τ f ≡ repeated τ g
+unfolding repeated
+repeated-same zero f g h = refl
+repeated-same (suc τ) f g h =
+    ap₂ (λ (x y : List ℕ). x ++ y) (repeated-same τ f g (λ e a b. h e a (omega arith))) (h (suc τ) (omega arith) (omega arith))
+
+pub length-repeated : (τ : ℕ) (f : ℕ → List ℕ) (w : ℕ) → ((e : ℕ) → 1 ≤ e → e ≤ τ → length (f e) ≡ w) → length (repeated τ f) ≡ τ * w
+unfolding repeated
+length-repeated zero f w h = sym (zero-mul w)
+length-repeated (suc τ) f w h =
+    let a = length-repeated τ f w (λ e p q. h e p (omega arith)) in
+    let b = h (suc τ) (omega arith) (omega arith) in
+    let c = suc-mul τ w in
+    let d = length-append (repeated τ f) (f (suc τ)) in
+    omega arith
+
+-- repetition e stands behind the e - 1 before it
+pub repeated-stands : (τ : ℕ) (f : ℕ → List ℕ) (w : ℕ) → ((e : ℕ) → 1 ≤ e → e ≤ τ → length (f e) ≡ w)
+    → (e : ℕ) → 1 ≤ e → e ≤ τ → StandsAt (repeated τ f) ((e - 1) * w) (f e)
+unfolding repeated
+repeated-stands zero f w h e p q = absurd (omega arith)
+repeated-stands (suc τ) f w h e p q =
+    elim (decLt e (suc τ)) as (λ d. StandsAt (repeated τ f ++ f (suc τ)) ((e - 1) * w) (f e)) [
+      | yes y ↦ stands-before (repeated τ f) (f (suc τ)) ((e - 1) * w) (f e) (repeated-stands τ f w (λ i a b. h i a (omega arith)) e p (omega arith))
+      | no y ↦ (let last : suc τ ≡ e = omega arith in
+          subst (λ (i : ℕ). StandsAt (repeated τ f ++ f (suc τ)) ((i - 1) * w) (f i)) last
+          (subst (λ (k : ℕ). StandsAt (repeated τ f ++ f (suc τ)) k (f (suc τ)))
+          (add-zero (length (repeated τ f)) ∙ length-repeated τ f w (λ i a b. h i a (omega arith)) ∙ ap (λ (i : ℕ). i * w) (before τ))
+          (stands-behind (repeated τ f) (f (suc τ)) 0 (f (suc τ)) (stands-self (f (suc τ))))))
+    ]
+  where
+    before : (n : ℕ) → n ≡ suc n - 1
+    before n = omega arith
+
+-- ---- elements
+
+pub append-elements : (u v : List ℕ) → Elements u → Elements v → Elements (u ++ v)
+append-elements u v hu hv i =
+    elim (decLt i (length u)) as (λ d. getD (u ++ v) i 0 < 16) [
+      | yes y ↦ (let e = List·getD-append u v 0 i y in let g = hu i in omega arith)
+      | no y ↦ (let k : i ≡ length u + (i - length u) = omega arith in
+          let e = ap (λ (j : ℕ). getD (u ++ v) j 0) k ∙ getD-append-add u v (i - length u) 0 in
+          let g = hv (i - length u) in
+          omega arith)
+    ]
+
+pub take-elements : (n : ℕ) (v : List ℕ) → Elements v → Elements (take n v)
+take-elements n v h i =
+    elim (decLt i n) as (λ d. getD (take n v) i 0 < 16) [
+      | yes y ↦ (let e = getD-take n v i 0 y in let g = h i in omega arith)
+      | no y ↦ (let l = length-take n v in let e = List·getD-eq-default (take n v) 0 {n = i} (omega arith) in omega arith)
+    ]
+
+pub drop-elements : (n : ℕ) (v : List ℕ) → Elements v → Elements (drop n v)
+drop-elements n v h i = let e = getD-drop n v i 0 in let g = h (n + i) in omega arith
+
+pub repeated-elements : (τ : ℕ) (f : ℕ → List ℕ) → ((e : ℕ) → 1 ≤ e → e ≤ τ → Elements (f e)) → Elements (repeated τ f)
+unfolding repeated
+repeated-elements zero f h = λ i. omega arith
+repeated-elements (suc τ) f h =
+    append-elements (repeated τ f) (f (suc τ)) (repeated-elements τ f (λ e a b. h e a (omega arith))) (h (suc τ) (omega arith) (omega arith))

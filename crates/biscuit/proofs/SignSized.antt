@@ -1,0 +1,140 @@
+-- What signing writes has its sizes: every part of a signature that algorithm 12 gives is as long as the layout wants it, and its vectors are of elements.
+-- Assumes nothing.
+use mathlib.Core.Path.{_≡_, ap, _∙_}
+use mathlib.Core.Bool.{Bool, true, false, cond}
+use mathlib.Core.List.{List, [], _∷_, _++_}
+use Prim.Native.Nat.{ℕ, zero, suc, _+_, _-_, _*_, _/_, _%_, _^_, _<_}
+use native.Mathlib.Omega.{arith}
+use lib.Dec.{eqb}
+use lib.ListN.{length, getD, take, drop, length-drop}
+use lib.Seq.{length-take-le}
+use Rattle.memory.proofs.Sections.{Each, no-section, one-more, each-append}
+use Rattle.field.specs.Vectors.{_⊕_, _⊙_}
+use Rattle.field.proofs.Vectors.{length-⊕, length-⊙}
+use Rattle.sponge.proofs.Laws.{length-shake256}
+use Rattle.sets.specs.Sets.{S, secretKeyLength}
+use Rattle.sets.specs.declared.Params.{Params}
+use Rattle.hashes.specs.Hashes.{hash1, hash2, prf, childSeeds}
+use Rattle.hashes.proofs.Laws.{length-commit, length-childSeeds}
+use Rattle.tree.specs.Tree.{children, position, beside, onWay, pathAt, getPath}
+use Rattle.tree.proofs.Theorems.{length-getSeeds, length-getPath}
+use Rattle.forms.proofs.Sampling.{Index, expandIndex-index}
+use Rattle.forms.proofs.Circuit.{expandCircuit-equations}
+use Rattle.parties.specs.Parties.{Share, secret, mask, helper}
+use Rattle.parties.specs.Repetition as repetition
+use Rattle.parties.proofs.Numbered.{length-parties, getD-parties}
+use Rattle.parties.proofs.Sizes.{AllSized, length-secret-le, length-mask, length-helper-le, each-alpha, length-alphas, length-entry}
+use Rattle.parties.proofs.Corrections.{raws-sized, length-shares, shares-sized}
+use Rattle.parties.proofs.ShareElements.{deltaS-elements, deltaC-elements, shares-elements, alphas-elements}
+use Rattle.biscuit.specs.Keys.{circuit}
+use Rattle.biscuit.specs.Sign.{Signer, f, seeds, coms, deltaS, deltaC, shares, h₁, ε, αs, h₂, hidden, opening, signed, drawn, signerOf, sign}
+use Rattle.biscuit.proofs.Keys.{SizedKey, secretKeyOf-sized}
+use Rattle.biscuit.proofs.Written.{SizedOpening, Sized}
+
+-- ---- the seeds of a path
+
+length-beside : (S : ℕ) (salt : List ℕ) (e k j : ℕ) (s : List ℕ) (p : ℕ) → length (beside p (children S salt e k j s)) ≡ S
+unfolding beside children
+length-beside S salt e k j s p = of (eqb (p % 2) 1)
+  where
+    of : (b : Bool) → length (cond b (take S (childSeeds S salt e k j s)) (drop S (childSeeds S salt e k j s))) ≡ S
+    of true = length-take-le S (childSeeds S salt e k j s) (let l = length-childSeeds S salt e k j s in omega arith)
+    of false = let l = length-childSeeds S salt e k j s in simp length-drop (omega arith)
+
+-- every seed of a path has S bytes
+each-getPath : (S : ℕ) (salt : List ℕ) (e L : ℕ) (root : List ℕ) (h : ℕ) → Each S (getPath (children S salt e) L root h)
+unfolding getPath pathAt
+each-getPath S salt e L root h = upTo L
+  where
+    upTo : (k : ℕ) → Each S (pathAt (children S salt e) L root h k)
+    upTo zero = no-section
+    upTo (suc k) = each-append (upTo k) (one-more (length-beside S salt e k (position L h (suc k) / 2) (onWay (children S salt e) L root h k) (position L h (suc k))) no-section)
+
+-- ---- the corrections of one repetition
+
+module _ (P : Params) (salt : List ℕ) (e : ℕ) (seeds : List (List ℕ)) where
+  length-deltaS : (s : List ℕ) → length s ≡ P .n → length (repetition.deltaS P salt e s seeds) ≡ P .n
+  unfolding repetition.deltaS
+  length-deltaS s n =
+      let l = length-secret-le (P .n) (P .m) (repetition.raws P salt e seeds) (raws-sized P salt e seeds) in
+      let r = length-⊕ s (secret (repetition.raws P salt e seeds)) in
+      omega arith
+
+  length-corrected : (m : ℕ) (y : List ℕ) (ps : List Share) → 0 < length ps → AllSized (P .n) m ps → length y ≡ m → length (y ⊙ mask ps ⊕ helper ps) ≡ m
+  length-corrected m y [] h z g = absurd (omega arith)
+  length-corrected m y (p ∷ ps) h z g =
+      let a = length-mask (P .n) m p ps z in
+      let b = length-helper-le (P .n) m (p ∷ ps) z in
+      let c = length-⊙ y (mask (p ∷ ps)) in
+      let d = length-⊕ (y ⊙ mask (p ∷ ps)) (helper (p ∷ ps)) in
+      omega arith
+
+  length-deltaC : (y : List ℕ) → 0 < length seeds → length y ≡ P .m → length (repetition.deltaC P salt e y seeds) ≡ P .m
+  unfolding repetition.deltaC repetition.raws
+  length-deltaC y h g =
+      length-corrected (P .m) y (repetition.raws P salt e seeds)
+      (let l = length-parties (repetition.rawShare P salt e) seeds in omega arith) (raws-sized P salt e seeds) g
+
+  length-com : (k : ℕ) → k < length seeds → length (getD (repetition.coms P salt e seeds) k []) ≡ 2 * S P
+  unfolding repetition.coms repetition.comOf
+  length-com k h = ap length (getD-parties (repetition.comOf P salt e) seeds k [] [] h) ∙ length-commit (S P) salt e (suc k) (getD seeds k [])
+
+-- ---- a signature
+
+module _ (P : Params) (signer : Signer) (msg : List ℕ) where
+  pub length-seeds : (e : ℕ) → length (seeds P signer e) ≡ 2 ^ P .l
+  unfolding seeds
+  length-seeds e = length-getSeeds (children (S P) (signer .salt) e) (P .l) (signer .root e)
+
+  -- the hidden party is one of the N
+  pub hidden-index : (e : ℕ) → Index (P .l) (hidden P signer msg e)
+  unfolding hidden repetition.hiddenParty
+  hidden-index e = expandIndex-index (h₂ P signer msg) (P .l) e
+
+  module _ (key : SizedKey P (signer .key)) where
+    opening-sized : (e : ℕ) → SizedOpening P (opening P signer msg e)
+    unfolding opening coms deltaS deltaC αs shares f circuit
+    opening-sized e =
+        let kids = children (S P) (signer .salt) e in
+        let h = hidden P signer msg e in
+        let count = length-seeds e in
+        let index = hidden-index e in
+        let s = signer .key .s in
+        let y = signer .key .y in
+        let ps = repetition.shares P (signer .salt) e s y (seeds P signer e) in
+        let equations = expandCircuit-equations (signer .key .seedF) (P .n) (P .m) in
+        let some-seed : 0 < length (seeds P signer e) = (let b = index .below in omega arith) in
+        let among : h - 1 < length (seeds P signer e) = (let b = index .below in omega arith) in
+        record {
+          levels = length-getPath kids (P .l) (signer .root e) h;
+          seeds = each-getPath (S P) (signer .salt) e (P .l) (signer .root e) h;
+          commitment = length-com P (signer .salt) e (seeds P signer e) (h - 1) among;
+          Δs = length-deltaS P (signer .salt) e (seeds P signer e) s (key .s);
+          Δc = length-deltaC P (signer .salt) e (seeds P signer e) y some-seed (key .y);
+          α = length-entry (h - 1)
+              (let a = length-alphas (f P signer) (ε P signer msg e) ps in let b = length-shares P (signer .salt) e s y (seeds P signer e) in omega arith)
+              (each-alpha (P .n) (P .m) (f P signer) (ε P signer msg e) ps equations (shares-sized P (signer .salt) e s y (seeds P signer e) (key .s) (key .y)));
+          Δs-elements = deltaS-elements P (signer .salt) e s (seeds P signer e) (key .s-elements);
+          Δc-elements = deltaC-elements P (signer .salt) e y (seeds P signer e);
+          α-elements = alphas-elements (f P signer) (ε P signer msg e) ps (shares-elements P (signer .salt) e s y (seeds P signer e) (key .s-elements)) (h - 1);
+        }
+
+    -- Whatever salt of 2S bytes and whatever roots a signer has, the signature has its sizes.
+    pub signed-sized : length (signer .salt) ≡ 2 * S P → Sized P (signed P signer msg)
+    unfolding signed h₁ h₂ hash1 hash2
+    signed-sized salt = record {
+      salt = salt;
+      h₁ = length-shake256 _ (2 * S P);
+      h₂ = length-shake256 _ (2 * S P);
+      opening = λ e a b. opening-sized e;
+    }
+
+-- the salt that is drawn has 2S bytes
+pub length-salt : (P : Params) (sk rnd msg : List ℕ) → length (signerOf P sk rnd msg .salt) ≡ 2 * S P
+unfolding signerOf drawn prf
+length-salt P sk rnd msg = length-take-le (2 * S P) _ (let l = length-shake256 (rnd ++ (sk ++ msg)) (2 * S P + P .tau * S P) in omega arith)
+
+-- What signing gives has its sizes, for every secret key of the right length.
+pub sign-sized : (P : Params) (sk rnd msg : List ℕ) → length sk ≡ secretKeyLength P → Sized P (sign P sk rnd msg)
+unfolding sign signerOf
+sign-sized P sk rnd msg h = signed-sized P (signerOf P sk rnd msg) msg (secretKeyOf-sized P sk h) (length-salt P sk rnd msg)

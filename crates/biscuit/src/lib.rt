@@ -1,0 +1,41 @@
+// What the four calls share: the tests of their sizes, and the map of the work buffer. What the calls promise stands in specs/, and why every signature is accepted in proofs/.
+use sets::Params;
+ghost use mathlib.Core.Path.{_≡_};
+ghost use Rattle.biscuit.specs.Room.{Fits, LayoutOf, groups};
+
+// Where the parts of work begin behind the circuit, and where the last ends.
+pub struct Layout {
+    pub leaves: usize,
+    pub room: usize,
+    pub roots: usize,
+    pub challenges: usize,
+    pub end: usize,
+}
+
+// The map of the work buffer.
+pub fn layout_of(p: Params) -> Layout
+    requires { ⌜ Fits p ⌝ }
+    ensures { λ r. ⌜ LayoutOf p r ⌝ }
+{
+    let s = p.bits / 8;
+    let g = groups_of(p);
+    let leaves = forms::circuit_len(p.n, p.m);
+    let room = leaves + 16 * g * s;
+    let roots = room + g * (16 * p.m);
+    let challenges = roots + p.tau * s;
+    Layout {
+        leaves: leaves,
+        room: room,
+        roots: roots,
+        challenges: challenges,
+        end: challenges + p.tau * ((p.m + 1) / 2),
+    }
+}
+
+// How many groups of sixteen parties there are.
+pub fn groups_of(p: Params) -> usize
+    requires { ⌜ Fits p ⌝ }
+    ensures { λ r. ⌜ r ≡ groups p ⌝ }
+{
+    1 << (p.l - 4)
+}

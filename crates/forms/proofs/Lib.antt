@@ -1,0 +1,6 @@
+pub mod Added
+pub mod Circuit
+pub mod Evaluated
+pub mod Room
+pub mod Sampling
+pub mod Shares

@@ -1,0 +1,4 @@
+pub mod Circuit
+pub mod Room
+pub mod Rows
+pub mod Sampling

@@ -1,0 +1,42 @@
+-- What the functions on words of lanes promise each other: rows of packed coefficients, times the sixteen vectors that stand in the lanes of words, added to words.
+-- The public promise does not cite these: it speaks of `linear` (specs/Circuit.antt). Assumes nothing.
+use mathlib.Core.List.{List}
+use mathlib.Core.Path.{_≡_}
+use Prim.Native.Nat.{ℕ, zero, suc, _+_, _*_, _/_, _%_, _<_}
+use lib.Bits.{bitXor}
+use lib.ListN.{length, getD}
+use Rattle.field.specs.Field.{mul}
+use Rattle.field.specs.Packing.{nib}
+use Rattle.lanes.specs.Lanes.{lane}
+
+-- the sum of the n products f i · g i
+unfoldable pub sumOf : ℕ → (ℕ → ℕ) → (ℕ → ℕ) → ℕ
+sumOf zero f g = 0
+sumOf (suc n) f g = bitXor (sumOf n f g) (mul (f n) (g n))
+
+-- x is in each lane the sum of u and v times the two coefficients in the byte b
+unfoldable pub PairValue : ℕ → ℕ → ℕ → ℕ → Type 0
+PairValue u v b x = (q : ℕ) → q < 16 → lane q x ≡ bitXor (mul (b % 16) (lane q u)) (mul (b / 16) (lane q v))
+
+-- such a sum for every byte
+unfoldable pub PairsOf : ℕ → ℕ → List ℕ → Type 0
+PairsOf u v t = (b : ℕ) → b < 256 → PairValue u v b (getD t b 0)
+
+-- such sums for `count` pairs of words, from the place a of s on: that of the c-th pair and the byte b stands at 256 c + b
+unfoldable pub PairsFrom : List ℕ → ℕ → ℕ → List ℕ → Type 0
+PairsFrom s a count t =
+    (c b : ℕ) → c < count → b < 256 → PairValue (getD s (a + c * 2) 0) (getD s (a + c * 2 + 1) 0) b (getD t (c * 256 + b) 0)
+
+-- the sum of the l-th word of `low` and the h-th of `high` stands at 16 h + l, for h below a count
+unfoldable pub SumsOf : List ℕ → List ℕ → ℕ → List ℕ → Type 0
+SumsOf low high count t = (h l : ℕ) → h < count → l < 16 → getD t (h * 16 + l) 0 ≡ bitXor (getD low l 0) (getD high h 0)
+
+-- `new` is `old` with, in each lane, the sum of `count` coefficients, from the half byte i of the bytes on, times the words from the place a of s on
+unfoldable pub RowAdded : List ℕ → ℕ → List ℕ → ℕ → ℕ → ℕ → ℕ → Type 0
+RowAdded bytes i s a count old new =
+    (q : ℕ) → q < 16 → lane q new ≡ bitXor (lane q old) (sumOf count (λ j. nib bytes (i + j)) (λ j. lane q (getD s (a + j) 0)))
+
+-- the words `new` are `old` with a row added to each; the rows stand `width` bytes apart, from the byte `start` on
+unfoldable pub RowsAdded : List ℕ → ℕ → ℕ → List ℕ → ℕ → ℕ → List ℕ → List ℕ → Type 0
+RowsAdded bytes start width s a count old new =
+    (k : ℕ) → k < length old → RowAdded bytes ((start + k * width) * 2) s a count (getD old k 0) (getD new k 0)

@@ -1,0 +1,4 @@
+pub mod Answers
+pub mod OneParty
+pub mod Shares
+pub mod Tapes

@@ -1,0 +1,65 @@
+-- `group::fill` meets its contract. What is squeezed from the tape is the beginning of SHAKE256.
+-- Assumes nothing.
+use mathlib.Core.Path.{_≡_, refl, sym, _∙_}
+use native.Mathlib.Omega.{arith}
+use Rattle.group.proofs.Shares.{filled-tape, tape-size, tape-room}
+use borrow.Author.Needs.{needs}
+use Rattle.group.proofs.fill.Statement.{statement}
+use Rattle.group.proofs.fill.Tie as tie
+
+add-n : tie.Need-add-n
+add-n c = search needs
+
+add-n-2 : tie.Need-add-n-2
+add-n-2 c = search needs
+
+add-n-3 : tie.Need-add-n-3
+add-n-3 c = search needs
+
+add-n-4 : tie.Need-add-n-4
+add-n-4 c = search needs
+
+add-n-5 : tie.Need-add-n-5
+add-n-5 c = search needs
+
+tape-requires : tie.Need-tape-requires
+tape-requires c κs = search needs
+
+sub-squeeze : tie.Need-sub-squeeze
+sub-squeeze c = search needs
+
+part-squeeze-start : tie.Need-part-squeeze-start
+part-squeeze-start c = search needs
+
+part-squeeze-end : tie.Need-part-squeeze-end
+part-squeeze-end c = search needs
+
+squeeze-requires : tie.Need-squeeze-requires
+squeeze-requires c κs = search needs
+
+same-length : tie.Need-same-length
+same-length c = search needs
+
+returns : tie.Need-returns
+returns c =
+    let s = c .before .before .before .before .before .before .before .before .before .before .before .before .before .before in
+    let z = tape-room (s .args .rep) (s .pre .0) in
+    let t = s .pre .3 in
+    filled-tape _ _ _ _ _ _ (tape-size (s .args .rep)) (omega arith) (c .before .before .before .before .tape .ensures) (c .before .before .squeeze .ensures .0)
+
+pub fill-spec : {M : Type 1} → statement M
+fill-spec =
+    tie.close
+    (tie.spec
+    add-n
+    add-n-2
+    add-n-3
+    add-n-4
+    add-n-5
+    tape-requires
+    sub-squeeze
+    part-squeeze-start
+    part-squeeze-end
+    squeeze-requires
+    same-length
+    returns)

@@ -1,0 +1,15 @@
+pub mod Comparisons
+pub mod Corrections
+pub mod Growing
+pub mod Hidden
+pub mod Honest
+pub mod KnownIsSigned
+pub mod Numbered
+pub mod OneChallenge
+pub mod OneRoutine
+pub mod OthersSum
+pub mod PathSeeds
+pub mod ShareElements
+pub mod SharesAddUp
+pub mod Sizes
+pub mod Totals

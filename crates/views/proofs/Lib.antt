@@ -1,0 +1,3 @@
+pub mod Absorbing
+pub mod Entries
+pub mod Sums
