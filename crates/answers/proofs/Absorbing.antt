@@ -1,16 +1,14 @@
 -- Groups absorbed one after another: what a sponge has absorbed, and the packing of sixteen vectors more. Assumes nothing.
 use mathlib.Core.List.{List, [], _∷_, _++_, flatten, append-assoc, append-nil}
 use mathlib.Core.Path.{_≡_, refl, sym, ap, subst, _∙_}
-use Prim.Native.Nat.{ℕ, zero, suc, _+_, _*_, _%_, _≤_, _<_}
+use Prim.Native.Nat.{ℕ, suc, _+_, _*_, _%_, _≤_, _<_}
 use native.Mathlib.Nat.{mul-right-comm, mul-mod-left}
 use native.Mathlib.Omega.{arith}
 use lib.ListN.{length, getD, take, drop, length-drop}
 use lib.Seq.{take-all, take-add, getD-take, getD-drop, length-take-le}
 use Rattle.memory.proofs.Sections.{Each, no-section, one-more, flatten-append, length-flatten}
 use Rattle.field.specs.Packing.{pack}
-use Rattle.field.specs.Vectors.{_!_}
 use Rattle.field.proofs.Packing.{pack-append}
-use Rattle.lanes.specs.Lanes.{lane}
 use Rattle.sponge.specs.declared.Sponge.{Sponge}
 use Rattle.sponge.specs.Steps.{absorbed}
 use Rattle.sponge.proofs.Laws.{absorbed-append}

@@ -4,3 +4,4 @@ pub mod Sizes
 pub mod Turning
 pub mod Values
 pub mod OneAlpha
+pub mod Work

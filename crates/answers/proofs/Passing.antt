@@ -1,18 +1,15 @@
 -- The first pass, group after group: the sums of the lanes are the sums over the parties passed, and what was kept stays. Assumes nothing.
-use mathlib.Core.List.{List, [], _++_}
-use mathlib.Core.Path.{_≡_, refl, sym, ap, ap₂, subst, _∙_}
-use Prim.Native.Nat.{ℕ, zero, suc, _+_, _-_, _*_, _≤_, _<_}
-use native.Mathlib.Nat.{add-zero, add-suc, mul-le-mul}
+use mathlib.Core.List.{List, []}
+use mathlib.Core.Path.{_≡_, refl, sym, ap, subst, _∙_}
+use Prim.Native.Nat.{ℕ, zero, suc, _+_, _*_, _<_}
+use native.Mathlib.Nat.{add-zero, add-suc}
 use native.Mathlib.Decide.{decLt}
 use native.Mathlib.Omega.{arith}
 use lib.Bits.{bitXor, xor-zero-r}
-use lib.ListN.{length, getD, take, drop, length-drop}
-use lib.Seq.{take-all, length-take-le}
-use Rattle.memory.specs.Lists.{put}
+use lib.ListN.{length, getD, take, drop}
+use lib.Seq.{take-all, drop-drop}
 use Rattle.memory.proofs.Lists.{room}
 use Rattle.memory.proofs.Bits.{xor-assoc}
-use Rattle.memory.proofs.Parts.{lent-put, mid-put}
-use Rattle.memory.proofs.Sections.{part-before-put}
 use Rattle.field.specs.Vectors.{_!_, total}
 use Rattle.lanes.specs.Lanes.{lane}
 use Rattle.lanes.proofs.Laws.{lane-zero}
@@ -21,6 +18,7 @@ use Rattle.marks.proofs.Sums.{sum-same, sum-xor}
 use Rattle.parties.proofs.Growing.{total-take-suc-at}
 use Rattle.sponge.specs.declared.Sponge.{Sponge}
 use Rattle.answers.specs.Passes.{Summed, HoldsGroup, Turn, Passed, Zeros}
+use Rattle.answers.proofs.Work.{part-same}
 
 -- ---- sums
 
@@ -56,21 +54,17 @@ sum-none l words z k =
 
 -- ---- what is kept
 
-kept-more : (n m : ℕ) (ys ws : List (List ℕ)) (all part : List ℕ) (a e : ℕ) → a ≡ n * (16 * m) → e ≡ a + 16 * m → e ≤ length all → length part ≡ e - a
-    → ((g : ℕ) → g < n → HoldsGroup g m ys ws (take (16 * m) (drop (g * (16 * m)) all))) → HoldsGroup n m ys ws part
-    → (g : ℕ) → g < n + 1 → HoldsGroup g m ys ws (take (16 * m) (drop (g * (16 * m)) (take a all ++ (part ++ drop (e - a) (drop a all)))))
-kept-more n m ys ws all part a e ea ee fits size before here g h =
-    subst (λ (l : List ℕ). HoldsGroup g m ys ws (take (16 * m) (drop (g * (16 * m)) l))) (sym (lent-put all a e part size))
-    (elim (decLt g n) as (λ d. HoldsGroup g m ys ws (take (16 * m) (drop (g * (16 * m)) (put all a part)))) [
+kept-more : (n m at : ℕ) (ys ws : List (List ℕ)) (old new : List ℕ) → take (at + n * (16 * m)) new ≡ take (at + n * (16 * m)) old
+    → ((g : ℕ) → g < n → HoldsGroup g m ys ws (take (16 * m) (drop (g * (16 * m)) (drop at old)))) → HoldsGroup n m ys ws (take (16 * m) (drop (at + n * (16 * m)) new))
+    → (g : ℕ) → g < n + 1 → HoldsGroup g m ys ws (take (16 * m) (drop (g * (16 * m)) (drop at new)))
+kept-more n m at ys ws old new same before here g h =
+    subst (λ (l : List ℕ). HoldsGroup g m ys ws (take (16 * m) l)) (sym (drop-drop (g * (16 * m)) at new))
+    (elim (decLt g n) as (λ d. HoldsGroup g m ys ws (take (16 * m) (drop (at + g * (16 * m)) new))) [
       | yes y ↦
           (let r = room g n (16 * m) y in
-          subst (HoldsGroup g m ys ws) (sym (part-before-put all a part (g * (16 * m)) (16 * m) (omega arith) (omega arith))) (before g y))
-      | no y ↦
-          (let i : n ≡ g = omega arith in
-          let j : 16 * m ≡ length part = omega arith in
-          subst (λ (x : ℕ). HoldsGroup x m ys ws (take (16 * m) (drop (x * (16 * m)) (put all a part)))) i
-          (subst (HoldsGroup n m ys ws)
-          (sym (ap₂ (λ (x y : ℕ). take x (drop y (put all a part))) j (sym ea) ∙ mid-put all a part (omega arith))) here))
+          subst (HoldsGroup g m ys ws)
+          (ap (take (16 * m)) (drop-drop (g * (16 * m)) at old) ∙ sym (part-same new old (at + g * (16 * m)) (16 * m) (at + n * (16 * m)) (omega arith) same)) (before g y))
+      | no y ↦ (let i : n ≡ g = omega arith in subst (λ (k : ℕ). HoldsGroup k m ys ws (take (16 * m) (drop (at + k * (16 * m)) new))) i here)
     ])
 
 -- ---- one turn more
@@ -83,27 +77,18 @@ passed-none m αs ys ws sa sy sw all za zy zw = record {
   kept = λ g h. absurd (omega arith);
 }
 
-pub passed-more : (n m : ℕ) (αs ys ws : List (List ℕ)) (s r : Sponge) (sa₀ sy₀ sw₀ sa sy sw all part : List ℕ) (a e : ℕ)
-    → a ≡ n * (16 * m) → e ≡ a + 16 * m → e ≤ length all → length part ≡ e - a
-    → Passed n m αs ys ws sa₀ sy₀ sw₀ all → Turn n m αs ys ws s sa₀ sy₀ sw₀ sa sy sw part r
-    → Passed (n + 1) m αs ys ws sa sy sw (take a all ++ (part ++ drop (e - a) (drop a all)))
-passed-more n m αs ys ws s r sa₀ sy₀ sw₀ sa sy sw all part a e ea ee fits size p t = record {
+pub passed-more : (n m at : ℕ) (αs ys ws : List (List ℕ)) (s r : Sponge) (sa₀ sy₀ sw₀ sa sy sw old new : List ℕ)
+    → take (at + n * (16 * m)) new ≡ take (at + n * (16 * m)) old → Passed n m αs ys ws sa₀ sy₀ sw₀ (drop at old)
+    → Turn n m αs ys ws s sa₀ sy₀ sw₀ sa sy sw (take (16 * m) (drop (at + n * (16 * m)) new)) r → Passed (n + 1) m αs ys ws sa sy sw (drop at new)
+passed-more n m at αs ys ws s r sa₀ sy₀ sw₀ sa sy sw old new same p t = record {
   alpha = λ k h. sum-more n m αs sa₀ sa (t .alpha) k h (p .alpha k h);
   second-form = λ k h. sum-more n m ys sy₀ sy (t .second-form) k h (p .second-form k h);
   rest = λ k h. sum-more n m ws sw₀ sw (t .rest) k h (p .rest k h);
-  kept = kept-more n m ys ws all part a e ea ee fits size (p .kept) (t .kept);
+  kept = kept-more n m at ys ws old new same (p .kept) (t .kept);
 }
 
 pub total-all : (l : List (List ℕ)) (n k : ℕ) → length l ≡ 16 * n → total (take (16 * n) l) ! k ≡ total l ! k
 total-all l n k e = ap (λ (x : List (List ℕ)). total x ! k) (take-all (16 * n) l (omega arith))
 
--- the part of the room that the next group takes
-pub part-length : (n m : ℕ) (αs ys ws : List (List ℕ)) (sa sy sw all : List ℕ) → Passed n m αs ys ws sa sy sw all → (a k : ℕ) → a + k ≤ length all → length (take (a + k - a) (drop a all)) ≡ k
-part-length n m αs ys ws sa sy sw all p a k h = let e : a + k - a ≡ k = omega arith in length-take-le (a + k - a) (drop a all) (simp length-drop (omega arith)) ∙ e
-
 pub passed-at : (n n′ m : ℕ) (αs ys ws : List (List ℕ)) (sa sy sw all : List ℕ) → n ≡ n′ → Passed n m αs ys ws sa sy sw all → Passed n′ m αs ys ws sa sy sw all
 passed-at n n′ m αs ys ws sa sy sw all e p = subst (λ (k : ℕ). Passed k m αs ys ws sa sy sw all) e p
-
--- the places in the room are small
-pub room-bound : (g groups m : ℕ) → g < groups → groups ≤ 16 → m ≤ 121 → g * (16 * m) + 16 * m ≤ 16 * 1936
-room-bound g groups m h a b = let r = room g groups (16 * m) h in let q = mul-le-mul a (let c : 16 * m ≤ 1936 = omega arith in c) in omega arith

@@ -1,11 +1,9 @@
 -- The vectors of all parties: their entries, and that each α and each v has m elements. Assumes nothing.
 use mathlib.Core.Bool.{Bool, true, false, cond}
 use mathlib.Core.List.{List, [], _∷_}
-use mathlib.Core.Path.{_≡_, refl, sym, ap, ap₂, fun-ext, _∙_}
+use mathlib.Core.Path.{_≡_, refl, sym, ap, fun-ext, _∙_}
 use Prim.Native.Nat.{ℕ, zero, suc, _+_, _*_, _≤_, _<_}
-use native.Mathlib.Decide.{ℕ-discrete}
 use native.Mathlib.Omega.{arith}
-use borrow.Author.Tests.{ne-eqb}
 use lib.Dec.{eqb}
 use lib.ListN.{length, getD, take, drop, length-drop}
 use lib.Seq.{length-take-le}
@@ -14,18 +12,16 @@ use Rattle.memory.proofs.Sections.{length-pieces, getD-pieces}
 use Rattle.field.specs.Vectors.{_!_, _⊕_, total}
 use Rattle.field.proofs.Packing.{length-unpack}
 use Rattle.field.proofs.Vectors.{length-⊕}
-use Rattle.lanes.specs.Lanes.{lane, Holds}
+use Rattle.lanes.specs.Lanes.{Holds}
 use Rattle.sets.specs.declared.Params.{Params}
-use Rattle.hashes.specs.Hashes.{tapeFields}
-use Rattle.forms.specs.Circuit.{Circuit}
 use Rattle.forms.specs.Room.{affineIn, circuitIn}
 use Rattle.forms.proofs.Sampling.{length-sampleElements}
 use Rattle.forms.proofs.Circuit.{Forms, Equations}
 use Rattle.forms.proofs.Room.{length-rows-in}
-use Rattle.parties.specs.Parties.{Share, parties, corrected, alphaOf, yOf, vOf}
+use Rattle.parties.specs.Parties.{Share, parties, corrected, alphaOf, yOf}
 use Rattle.parties.specs.Repetition.{rawShare}
 use Rattle.parties.proofs.Numbered.{length-parties, getD-parties}
-use Rattle.parties.proofs.Sizes.{length-alphaOf, length-vOf}
+use Rattle.parties.proofs.Sizes.{length-alphaOf}
 use Rattle.group.specs.declared.Rep.{Rep}
 use Rattle.group.specs.Shares.{valuesLength, deltaS, deltaC, epsilon, target, alphaGiven, paramsIn, shareAt, restOf, HoldsAnswers}
 use Rattle.answers.specs.Answers.{sharesOf}

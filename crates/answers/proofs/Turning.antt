@@ -1,13 +1,12 @@
 -- One group in each pass: packed and absorbed, added to the sums, kept as bytes and read back. Assumes nothing.
-use mathlib.Core.Bool.{cond}
-use mathlib.Core.List.{List, [], _++_, flatten}
+use mathlib.Core.List.{List, _++_, flatten}
 use mathlib.Core.Path.{_≡_, refl, sym, ap, ap₂, subst, _∙_}
 use Prim.Native.Nat.{ℕ, zero, suc, _+_, _-_, _*_, _≤_, _<_}
 use native.Mathlib.Nat.{sub-zero, zero-add}
 use native.Mathlib.Decide.{decLt}
 use native.Mathlib.Omega.{arith}
 use lib.Bits.{bitXor, xor-lt}
-use lib.Dec.{eqb, lit<}
+use lib.Dec.{lit<}
 use lib.ListN.{length, getD, take, drop, replicate, length-replicate, length-append, length-take, length-drop, List·getD-eq-default}
 use lib.Seq.{take-at, length-take-le, getD-take}
 use Rattle.memory.specs.Lists.{put}
@@ -68,12 +67,6 @@ module _ (n m : ℕ) (x : List ℕ) (h : m ≤ n) (e : length x ≡ length (take
       let c = zeros-sized n m h in
       omega arith
 
--- a part that was lent keeps the length of the whole
-pub lent-kept : (l x : List ℕ) (a e : ℕ) → a ≤ e → e ≤ length l → length x ≡ length (take (e - a) (drop a l)) → length (take a l ++ (x ++ drop (e - a) (drop a l))) ≡ length l
-lent-kept l x a e h g s =
-    let t = s ∙ length-take-le (e - a) (drop a l) (simp length-drop (omega arith)) in
-    ap length (lent-put l a e x t) ∙ length-put l a x (omega arith)
-
 -- ---- packed and absorbed
 
 pub absorbed-packed : (s r : Sponge) (words before after : List ℕ) (n : ℕ) → n ≡ 8 * length words → PartiesPacked words before after → Bytes after → 8 * length words ≤ length after
@@ -132,23 +125,24 @@ module _ (g m : ℕ) (ys ws : List (List ℕ)) (y z part one two : List ℕ) (ha
 
 -- ---- a turn of the first pass
 
-pub turn-done : (rep : Rep) (g : ℕ) (circuit salt leaves v x y z x′ y′ z′ sa₀ sy₀ sw₀ sa sy sw part : List ℕ) (s r : Sponge)
-    → x′ ≡ x → y′ ≡ y → z′ ≡ z → length x ≡ rep .m → length v ≡ valuesLength rep → g < rep .groups
+pub turn-done : (rep : Rep) (g : ℕ) (circuit salt leaves v x y z x′ y′ z′ sa₀ sy₀ sw₀ sa sy sw part part′ : List ℕ) (s r : Sponge)
+    → part′ ≡ part → x′ ≡ x → y′ ≡ y → z′ ≡ z → length x ≡ rep .m → length v ≡ valuesLength rep → g < rep .groups
     → HoldsAnswers rep g (circuitIn (rep .n) (rep .m) circuit) v (λ q. shareAt rep salt leaves v (16 * g + q)) x y z
     → ((g : ℕ) (αs ys ws : List (List ℕ)) → Packs (take 16 (drop (16 * g) αs)) x′ → InLanes g αs x′ → InLanes g ys y′ → InLanes g ws z′ → Turn g (length x′) αs ys ws s sa₀ sy₀ sw₀ sa sy sw part r)
-    → Turn g (rep .m) (alphasOf rep circuit salt leaves v) (secondFormsOf rep circuit salt leaves v) (restsOf rep circuit salt leaves v) s sa₀ sy₀ sw₀ sa sy sw part r
-turn-done rep g circuit salt leaves v x y z x′ y′ z′ sa₀ sy₀ sw₀ sa sy sw part s r ex ey ez lx lv inside held step =
+    → Turn g (rep .m) (alphasOf rep circuit salt leaves v) (secondFormsOf rep circuit salt leaves v) (restsOf rep circuit salt leaves v) s sa₀ sy₀ sw₀ sa sy sw part′ r
+turn-done rep g circuit salt leaves v x y z x′ y′ z′ sa₀ sy₀ sw₀ sa sy sw part part′ s r ep ex ey ez lx lv inside held step =
     let αs = alphasOf rep circuit salt leaves v in
     let ys = secondFormsOf rep circuit salt leaves v in
     let ws = restsOf rep circuit salt leaves v in
     let count = length-alphas rep salt leaves v lv circuit in
     let ia = alphas-in rep salt leaves v lv circuit g x y z inside held in
-    subst (λ (n : ℕ). Turn g n αs ys ws s sa₀ sy₀ sw₀ sa sy sw part r) (ap length ex ∙ lx)
+    subst (λ (l : List ℕ). Turn g (rep .m) αs ys ws s sa₀ sy₀ sw₀ sa sy sw l r) (sym ep)
+    (subst (λ (n : ℕ). Turn g n αs ys ws s sa₀ sy₀ sw₀ sa sy sw part r) (ap length ex ∙ lx)
     (step g αs ys ws
     (subst (Packs (take 16 (drop (16 * g) αs))) (sym ex) (packs-group (rep .m) αs (alphas-vectors rep salt leaves v lv circuit) g (omega arith) x lx ia))
     (subst (InLanes g αs) (sym ex) ia)
     (subst (InLanes g ys) (sym ey) (second-forms-in rep salt leaves v lv circuit g x y z inside held))
-    (subst (InLanes g ws) (sym ez) (rests-in rep salt leaves v lv circuit g x y z inside held)))
+    (subst (InLanes g ws) (sym ez) (rests-in rep salt leaves v lv circuit g x y z inside held))))
 
 -- ---- the sums folded
 

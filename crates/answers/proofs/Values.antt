@@ -1,7 +1,7 @@
 -- Every v from y and z·ε + c: the hidden v is the sum of the others, and all α and all v together are what the second hash absorbs. Assumes nothing.
 use mathlib.Core.Bool.{Bool, true, false, cond}
 use mathlib.Core.List.{List, [], _++_, flatten}
-use mathlib.Core.Path.{_≡_, refl, sym, ap, ap₂, subst, _∙_}
+use mathlib.Core.Path.{_≡_, refl, sym, ap, ap₂, _∙_}
 use Prim.Native.Nat.{ℕ, suc, _+_, _*_, _≤_, _<_}
 use native.Mathlib.Nat.{mul-zero, mul-one}
 use native.Mathlib.Decide.{ℕ-discrete}
@@ -21,7 +21,7 @@ use Rattle.sponge.specs.Steps.{absorbed}
 use Rattle.sponge.proofs.Laws.{absorbed-append}
 use Rattle.forms.specs.Circuit.{Circuit}
 use Rattle.forms.specs.Room.{circuitIn, HoldsCircuit}
-use Rattle.parties.specs.Parties.{Share, numbered, parties, alphaOf, yOf, zOf, vOf}
+use Rattle.parties.specs.Parties.{Share, numbered, parties, yOf, zOf, vOf}
 use Rattle.parties.specs.Repetition.{givenAt, second}
 use Rattle.parties.proofs.Numbered.{numbered-same}
 use Rattle.parties.proofs.Totals.{total-⊕, total-⊙}

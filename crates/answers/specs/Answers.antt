@@ -1,4 +1,4 @@
--- One repetition's answers, for signing and verifying alike: what the second hash absorbs (algorithm 12, lines 18 to 34, and algorithm 13, lines 20 to 29).
+-- One repetition's answers, for signing and verifying alike: what the second hash absorbs (algorithm 12, lines 18 to 34, and algorithm 13, lines 20 to 30 and 34).
 -- Party `hidden` is left out, its α given and its v the sum of the others; 0 leaves nobody out. Assumes nothing.
 use mathlib.Core.List.{List}
 use Prim.Native.Nat.{ℕ, _*_}

@@ -13,12 +13,24 @@ use Rattle.field.specs.Vectors.{_!_, total}
 use Rattle.lanes.specs.Lanes.{lane}
 use Rattle.sponge.specs.declared.Sponge.{Sponge}
 use Rattle.sponge.specs.Steps.{absorbed}
-use Rattle.forms.specs.Room.{circuitIn}
+use Rattle.forms.specs.Room.{circuitLength, circuitIn}
 use Rattle.parties.specs.Parties.{parties, alphaOf, yOf}
 use Rattle.marks.specs.Marks.{laneSum}
 use Rattle.group.specs.declared.Rep.{Rep}
 use Rattle.group.specs.Shares.{paramsIn, epsilon, target, alphaGiven, restOf}
 use Rattle.answers.specs.Answers.{sharesOf}
+
+-- ---- the work of a repetition: the circuit, the leaves, and the room for y and z·ε + c of each group
+
+abbrev pub circuitOf : Rep → List ℕ → List ℕ
+circuitOf rep work = take (circuitLength (rep .n) (rep .m)) work
+
+abbrev pub leavesOf : Rep → List ℕ → List ℕ
+leavesOf rep work = take (16 * rep .groups * rep .s) (drop (circuitLength (rep .n) (rep .m)) work)
+
+-- where the room begins
+abbrev pub roomAt : Rep → ℕ
+roomAt rep = circuitLength (rep .n) (rep .m) + 16 * rep .groups * rep .s
 
 -- ---- the vectors of all parties: α, y and z·ε + c; at the hidden party the given α, and nothing
 

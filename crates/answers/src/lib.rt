@@ -16,9 +16,9 @@ ghost use Rattle.lanes.specs.Lanes.{lane};
 ghost use Rattle.marks.specs.Marks.{EachWord};
 ghost use Rattle.parties.specs.Parties.{corrected, alphaOf};
 ghost use Rattle.parties.specs.Repetition.{rawShare};
-ghost use Rattle.group.specs.Shares.{Sized, valuesLength, deltaS, deltaC, epsilon, sampled, TapeStored};
+ghost use Rattle.group.specs.Shares.{Sized, valuesLength, deltaS, deltaC, epsilon, shareAt, sampled, TapeStored, HoldsAnswers};
 ghost use Rattle.answers.specs.Answers.{sharesOf, answered};
-ghost use Rattle.answers.specs.Passes.{alphasOf, secondFormsOf, restsOf, Packs, InLanes, Turn, Passed, HoldsGroup, Zeros, VWords, VsOf, Folded};
+ghost use Rattle.answers.specs.Passes.{circuitOf, leavesOf, roomAt, alphasOf, secondFormsOf, restsOf, Packs, InLanes, Turn, Passed, HoldsGroup, Zeros, VWords, VsOf, Folded};
 
 // The most equations that a set has.
 const EQUATIONS: usize = 121;
@@ -26,20 +26,15 @@ const EQUATIONS: usize = 121;
 // The words that hold sixteen tapes.
 const TAPES: usize = 368;
 
-// The second hash with every α and then every v of a repetition absorbed.
-pub fn answers(
-    sponge: Sponge,
-    rep: Rep,
-    salt: &[u8],
-    leaves: &[u8],
-    circuit: &[u8],
-    values: &[u8],
-    room: &mut [u8],
-) -> Sponge
-    requires { ⌜ (Sized rep) × (0 < rep .groups) × (length (now salt) ≤ 64) × (length (now leaves) ≡ 16 * rep .groups * rep .s) × (length (now circuit) ≡ circuitLength (rep .n) (rep .m)) × (length (now values) ≡ valuesLength rep) × (Elements (now values)) × (length (now room) ≡ rep .groups * (16 * rep .m)) ⌝ }
-    ensures { λ r. ⌜ ((P : Params) (f : Circuit) → P .n ≡ rep .n → P .m ≡ rep .m → HoldsCircuit (rep .n) (rep .m) f (now (circuit .entry)) → r ≡ absorbed sponge (answered f rep (now (values .entry)) (sharesOf P rep (now (salt .entry)) (now (leaves .entry)) (now (values .entry))))) ⌝ }
+// The second hash with every α and then every v of a repetition absorbed. The work holds the circuit, the leaves, and room for y and z·ε + c of each group.
+pub fn answers(sponge: Sponge, rep: Rep, salt: &[u8], values: &[u8], work: &mut [u8]) -> Sponge
+    requires { ⌜ (Sized rep) × (0 < rep .groups) × (length (now salt) ≤ 64) × (length (now values) ≡ valuesLength rep) × (Elements (now values)) × (length (now work) ≡ circuitLength (rep .n) (rep .m) + 16 * rep .groups * rep .s + rep .groups * (16 * rep .m)) ⌝ }
+    ensures absorbs { λ r. ⌜ ((P : Params) (f : Circuit) → P .n ≡ rep .n → P .m ≡ rep .m → HoldsCircuit (rep .n) (rep .m) f (take (circuitLength (rep .n) (rep .m)) (now (work .entry))) → r ≡ absorbed sponge (answered f rep (now (values .entry)) (sharesOf P rep (now (salt .entry)) (take (16 * rep .groups * rep .s) (drop (circuitLength (rep .n) (rep .m)) (now (work .entry)))) (now (values .entry))))) ⌝ }
+    ensures kept { λ r. ⌜ take (circuitLength (rep .n) (rep .m)) (now (work .exit)) ≡ take (circuitLength (rep .n) (rep .m)) (now (work .entry)) ⌝ }
 {
     let m = rep.m;
+    let a = room_at(rep);
+    let e = work.len();
     let mut sa = [0u64; EQUATIONS];
     let mut sy = [0u64; EQUATIONS];
     let mut sw = [0u64; EQUATIONS];
@@ -47,15 +42,21 @@ pub fn answers(
         sponge,
         rep,
         salt,
-        leaves,
-        circuit,
         values,
         &mut sa[0..m],
         &mut sy[0..m],
         &mut sw[0..m],
-        room,
+        work,
     );
-    finish(first, rep, &sa[0..m], &mut sy[0..m], &sw[0..m], room)
+    finish(first, rep, &sa[0..m], &mut sy[0..m], &sw[0..m], &work[a..e])
+}
+
+// Where the room begins, behind the circuit and the leaves.
+fn room_at(rep: Rep) -> usize
+    requires { ⌜ Sized rep ⌝ }
+    ensures { λ r. ⌜ r ≡ roomAt rep ⌝ }
+{
+    forms::circuit_len(rep.n, rep.m) + 16 * rep.groups * rep.s
 }
 
 // Algorithm 12, line 27, for one party: the α of party i with this seed, an element to a byte.
@@ -125,38 +126,22 @@ fn first_pass(
     sponge: Sponge,
     rep: Rep,
     salt: &[u8],
-    leaves: &[u8],
-    circuit: &[u8],
     values: &[u8],
     sa: &mut [u64],
     sy: &mut [u64],
     sw: &mut [u64],
-    room: &mut [u8],
+    work: &mut [u8],
 ) -> Sponge
-    requires { ⌜ (Sized rep) × (0 < rep .groups) × (length (now salt) ≤ 64) × (length (now leaves) ≡ 16 * rep .groups * rep .s) × (length (now circuit) ≡ circuitLength (rep .n) (rep .m)) × (length (now values) ≡ valuesLength rep) × (Elements (now values)) × (length (now sa) ≡ rep .m) × (length (now sy) ≡ rep .m) × (length (now sw) ≡ rep .m) × (Zeros (now sa)) × (Zeros (now sy)) × (Zeros (now sw)) × (length (now room) ≡ rep .groups * (16 * rep .m)) ⌝ }
-    ensures absorbs { λ r. ⌜ r ≡ absorbed sponge (pack (flatten (alphasOf rep (now (circuit .entry)) (now (salt .entry)) (now (leaves .entry)) (now (values .entry))))) ⌝ }
-    ensures keeps { λ r. ⌜ Passed (rep .groups) (rep .m) (alphasOf rep (now (circuit .entry)) (now (salt .entry)) (now (leaves .entry)) (now (values .entry))) (secondFormsOf rep (now (circuit .entry)) (now (salt .entry)) (now (leaves .entry)) (now (values .entry))) (restsOf rep (now (circuit .entry)) (now (salt .entry)) (now (leaves .entry)) (now (values .entry))) (now (sa .exit)) (now (sy .exit)) (now (sw .exit)) (now (room .exit)) ⌝ }
+    requires { ⌜ (Sized rep) × (0 < rep .groups) × (length (now salt) ≤ 64) × (length (now values) ≡ valuesLength rep) × (Elements (now values)) × (length (now sa) ≡ rep .m) × (length (now sy) ≡ rep .m) × (length (now sw) ≡ rep .m) × (Zeros (now sa)) × (Zeros (now sy)) × (Zeros (now sw)) × (length (now work) ≡ roomAt rep + rep .groups * (16 * rep .m)) ⌝ }
+    ensures absorbs { λ r. ⌜ r ≡ absorbed sponge (pack (flatten (alphasOf rep (circuitOf rep (now (work .entry))) (now (salt .entry)) (leavesOf rep (now (work .entry))) (now (values .entry))))) ⌝ }
+    ensures keeps { λ r. ⌜ Passed (rep .groups) (rep .m) (alphasOf rep (circuitOf rep (now (work .entry))) (now (salt .entry)) (leavesOf rep (now (work .entry))) (now (values .entry))) (secondFormsOf rep (circuitOf rep (now (work .entry))) (now (salt .entry)) (leavesOf rep (now (work .entry))) (now (values .entry))) (restsOf rep (circuitOf rep (now (work .entry))) (now (salt .entry)) (leavesOf rep (now (work .entry))) (now (values .entry))) (now (sa .exit)) (now (sy .exit)) (now (sw .exit)) (drop (roomAt rep) (now (work .exit))) ⌝ }
+    ensures kept { λ r. ⌜ take (roomAt rep) (now (work .exit)) ≡ take (roomAt rep) (now (work .entry)) ⌝ }
 {
-    let size = 16 * rep.m;
     let groups = rep.groups;
     let mut s = sponge;
     let mut g = 0;
     while g < groups {
-        let a = g * size;
-        let e = a + size;
-        let t = turn(
-            s,
-            rep,
-            g,
-            salt,
-            leaves,
-            circuit,
-            values,
-            sa,
-            sy,
-            sw,
-            &mut room[a..e],
-        );
+        let t = turn(s, rep, g, salt, values, sa, sy, sw, work);
         s = t;
         g += 1;
     }
@@ -169,33 +154,62 @@ fn turn(
     rep: Rep,
     g: usize,
     salt: &[u8],
-    leaves: &[u8],
-    circuit: &[u8],
     values: &[u8],
     sa: &mut [u64],
     sy: &mut [u64],
     sw: &mut [u64],
-    part: &mut [u8],
+    work: &mut [u8],
 ) -> Sponge
-    requires { ⌜ (Sized rep) × (g < rep .groups) × (length (now salt) ≤ 64) × (length (now leaves) ≡ 16 * rep .groups * rep .s) × (length (now circuit) ≡ circuitLength (rep .n) (rep .m)) × (length (now values) ≡ valuesLength rep) × (Elements (now values)) × (length (now sa) ≡ rep .m) × (length (now sy) ≡ rep .m) × (length (now sw) ≡ rep .m) × (length (now part) ≡ 16 * rep .m) ⌝ }
-    ensures { λ r. ⌜ Turn g (rep .m) (alphasOf rep (now (circuit .entry)) (now (salt .entry)) (now (leaves .entry)) (now (values .entry))) (secondFormsOf rep (now (circuit .entry)) (now (salt .entry)) (now (leaves .entry)) (now (values .entry))) (restsOf rep (now (circuit .entry)) (now (salt .entry)) (now (leaves .entry)) (now (values .entry))) sponge (now (sa .entry)) (now (sy .entry)) (now (sw .entry)) (now (sa .exit)) (now (sy .exit)) (now (sw .exit)) (now (part .exit)) r ⌝ }
+    requires { ⌜ (Sized rep) × (g < rep .groups) × (length (now salt) ≤ 64) × (length (now values) ≡ valuesLength rep) × (Elements (now values)) × (length (now sa) ≡ rep .m) × (length (now sy) ≡ rep .m) × (length (now sw) ≡ rep .m) × (length (now work) ≡ roomAt rep + rep .groups * (16 * rep .m)) ⌝ }
+    ensures turned { λ r. ⌜ Turn g (rep .m) (alphasOf rep (circuitOf rep (now (work .entry))) (now (salt .entry)) (leavesOf rep (now (work .entry))) (now (values .entry))) (secondFormsOf rep (circuitOf rep (now (work .entry))) (now (salt .entry)) (leavesOf rep (now (work .entry))) (now (values .entry))) (restsOf rep (circuitOf rep (now (work .entry))) (now (salt .entry)) (leavesOf rep (now (work .entry))) (now (values .entry))) sponge (now (sa .entry)) (now (sy .entry)) (now (sw .entry)) (now (sa .exit)) (now (sy .exit)) (now (sw .exit)) (take (16 * rep .m) (drop (roomAt rep + g * (16 * rep .m)) (now (work .exit)))) r ⌝ }
+    ensures kept { λ r. ⌜ take (roomAt rep + g * (16 * rep .m)) (now (work .exit)) ≡ take (roomAt rep + g * (16 * rep .m)) (now (work .entry)) ⌝ }
 {
     let m = rep.m;
+    let size = 16 * m;
+    let a = room_at(rep) + g * size;
+    let e = a + size;
     let mut x = [0u64; EQUATIONS];
     let mut y = [0u64; EQUATIONS];
     let mut z = [0u64; EQUATIONS];
-    group::group(
+    group_of(
         rep,
         g,
         salt,
-        leaves,
-        circuit,
         values,
+        work,
         &mut x[0..m],
         &mut y[0..m],
         &mut z[0..m],
     );
-    taken(sponge, &x[0..m], &y[0..m], &z[0..m], sa, sy, sw, part)
+    taken(
+        sponge,
+        &x[0..m],
+        &y[0..m],
+        &z[0..m],
+        sa,
+        sy,
+        sw,
+        &mut work[a..e],
+    )
+}
+
+// α, y and z·ε + c of the sixteen parties of group g, by the circuit and the leaves in the work.
+fn group_of(
+    rep: Rep,
+    g: usize,
+    salt: &[u8],
+    values: &[u8],
+    work: &[u8],
+    x: &mut [u64],
+    y: &mut [u64],
+    z: &mut [u64],
+)
+    requires { ⌜ (Sized rep) × (g < rep .groups) × (length (now salt) ≤ 64) × (length (now values) ≡ valuesLength rep) × (Elements (now values)) × (roomAt rep ≤ length (now work)) × (length (now x) ≡ rep .m) × (length (now y) ≡ rep .m) × (length (now z) ≡ rep .m) ⌝ }
+    ensures { λ r. ⌜ HoldsAnswers rep g (circuitIn (rep .n) (rep .m) (circuitOf rep (now (work .entry)))) (now (values .entry)) (λ q. shareAt rep (now (salt .entry)) (leavesOf rep (now (work .entry))) (now (values .entry)) (16 * g + q)) (now (x .exit)) (now (y .exit)) (now (z .exit)) ⌝ }
+{
+    let c = forms::circuit_len(rep.n, rep.m);
+    let l = room_at(rep);
+    group::group(rep, g, salt, &work[c..l], &work[0..c], values, x, y, z);
 }
 
 // α absorbed; α, y and z·ε + c added to the sums; y and then z·ε + c written to the bytes.

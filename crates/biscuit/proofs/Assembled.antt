@@ -39,7 +39,7 @@ stands-repeated x k (suc τ) f w h l s =
     before n = omega arith
 
 -- packed bytes of an even number of elements are those that pack what is read from them
-pack-unpack-even : (n : ℕ) (b : List ℕ) → n % 2 ≡ 0 → Bytes b → length b ≡ packedLength n → pack (unpack n b) ≡ b
+pub pack-unpack-even : (n : ℕ) (b : List ℕ) → n % 2 ≡ 0 → Bytes b → length b ≡ packedLength n → pack (unpack n b) ≡ b
 unfolding strayCleared
 pack-unpack-even n b even h e =
     pack-unpack n b h

@@ -12,4 +12,5 @@ pub mod Repeated
 pub mod Room
 pub mod SignSized
 pub mod SignedIsAccepted
+pub mod Sizes
 pub mod Written

@@ -1,6 +1,9 @@
 // What the test programs print with, and how they make their inputs: a line names a case and has its bytes in hexadecimal.
 // The independent program prints the same lines from the same rules.
+ghost use mathlib.Core.Path.{_≡_};
 ghost use Prim.Native.Nat.{_<_};
+ghost use lib.ListN.{length};
+ghost use Rattle.field.specs.Packing.{Elements};
 use libc::STDOUT_FILENO;
 use sponge::Sponge;
 
@@ -30,10 +33,14 @@ pub fn bytes_line(bytes: &[u8]) {
 
 // Bytes that are many, as 32 bytes of SHAKE256.
 pub fn digest_line(bytes: &[u8]) {
-    let mut digest = [0u8; 32];
     let s = Sponge::new();
-    let full = s.absorb(bytes);
-    let t = full.finish();
+    hash_line(s.absorb(bytes));
+}
+
+// What was absorbed, as 32 bytes of SHAKE256.
+pub fn hash_line(hash: Sponge) {
+    let mut digest = [0u8; 32];
+    let t = hash.finish();
     t.squeeze(&mut digest);
     bytes_line(&digest);
 }
@@ -47,6 +54,17 @@ pub fn progression(step: usize, start: usize, out: &mut [u8])
     while i < out.len() {
         out[i] = (x % 256) as u8;
         x = (x + step) % 256;
+        i += 1;
+    }
+}
+
+// Each byte modulo 16, so that it is an element of the field.
+pub fn elements(out: &mut [u8])
+    ensures { λ r. ⌜ (length (now (out .exit)) ≡ length (now (out .entry))) × Elements (now (out .exit)) ⌝ }
+{
+    let mut i = 0;
+    while i < out.len() {
+        out[i] = out[i] % 16;
         i += 1;
     }
 }

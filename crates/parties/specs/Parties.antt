@@ -1,4 +1,4 @@
--- The parties of one repetition and the multiplication check that they run together: algorithm 9 of the submission, and lines 17 to 34 of algorithm 12.
+-- The parties of one repetition and the multiplication check that they run together: algorithm 9 of the submission, and lines 16 to 32 of algorithm 12.
 -- A list has an entry for each party; party 1 comes first. Addition and subtraction of vectors are both `⊕`.
 -- Assumes nothing.
 use mathlib.Core.Bool.{cond}

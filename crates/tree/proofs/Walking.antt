@@ -1,25 +1,26 @@
--- The path as bytes: one step of the walk, and the path so far at the start of what is written.
+-- The path as bytes: one step of the walk, the path so far at the start of what is written, and the leaf at which the walk ends.
 -- Assumes nothing.
 use mathlib.Core.Path.{_≡_, refl, sym, ap, ap₂, _∙_}
 use mathlib.Core.Bool.{Bool, cond}
 use mathlib.Core.List.{List, [], _∷_, _++_, append-nil, flatten}
-use Prim.Native.Nat.{ℕ, zero, suc, _+_, _-_, _*_, _/_, _%_, _≤_}
+use Prim.Native.Nat.{ℕ, zero, suc, _+_, _-_, _*_, _/_, _%_, _^_, _≤_, _<_}
 use native.Mathlib.Nat.{zero-mul, one-mul, suc-mul, sub-zero, sub-self}
 use native.Mathlib.Numerals.{add-one}
 use native.Mathlib.Omega.{arith}
-use lib.ListN.{length, take, drop, length-drop, drop-of-length-le}
+use lib.ListN.{length, getD, take, drop, length-drop, drop-of-length-le}
 use lib.Seq.{length-take-le, take-all, take-at}
 use Rattle.memory.specs.Lists.{over, put}
 use Rattle.memory.specs.Sections.{pieces}
-use Rattle.memory.proofs.Parts.{over-fits, put-section}
+use Rattle.memory.proofs.Parts.{over-fits, over-put, put-section, put-whole}
 use Rattle.memory.proofs.Sections.{Each, no-section, one-more, each-append, part-in-put, copied-part, length-flatten, flatten-append, pieces-flatten}
+use Rattle.memory.proofs.Xors.{part-sized, length-part}
 use Rattle.hashes.specs.Hashes.{childSeeds}
 use Rattle.hashes.proofs.Laws.{length-childSeeds}
-use Rattle.tree.specs.Tree.{children, position, towards, beside, onWay, pathAt, getPath}
-use Rattle.tree.proofs.Positions.{Bit, even, odd, bit}
+use Rattle.tree.specs.Tree.{children, seedsAt, getSeeds, position, towards, beside, onWay, pathAt, getPath}
+use Rattle.tree.proofs.Positions.{Bit, even, odd, bit, position-last}
 use Rattle.tree.proofs.Levels.{Kids}
 use Rattle.tree.proofs.Laying.{Sized, children-sized}
-use Rattle.tree.proofs.Theorems.{length-pathAt, length-getPath}
+use Rattle.tree.proofs.Theorems.{length-pathAt, length-getPath, onWay-seedsAt}
 
 module _ (S : ℕ) (salt : List ℕ) (e k j : ℕ) (s pair : List ℕ) (p : ℕ) (fits : 2 * S ≤ length pair) where
   two-seeds : length (childSeeds S salt e k j s) ≡ 2 * S
@@ -162,6 +163,23 @@ module _ (S : ℕ) (salt : List ℕ) (e L : ℕ) (root : List ℕ) (h : ℕ) whe
       o ∙ ap (λ (i : ℕ). flatten (pathAt (children S salt e) L root h i) ++ drop (i * S) x) f
       ∙ ap (λ (l : List ℕ). flatten (pathAt (children S salt e) L root h L) ++ l) (drop-of-length-le x {i = L * S} (omega arith))
       ∙ append-nil (flatten (pathAt (children S salt e) L root h L))
+
+  -- the seed on the way after all steps, copied, is the hidden party's leaf
+  pub leaf-copied : (k at : ℕ) (pair x leaf : List ℕ) → k ≡ L → h - 1 < 2 ^ L → at + S ≤ length pair → length x ≡ S →
+      take S (drop at pair) ≡ onWay (children S salt e) L root h k → leaf ≡ over (take (at + S - at) (drop at pair)) x →
+      leaf ≡ getD (getSeeds (children S salt e) L root) (h - 1) []
+  unfolding getSeeds
+  leaf-copied k at pair x leaf f b i n w o =
+      let own = part-sized pair at S in
+      let size = ap length own ∙ length-part pair at S i in
+      o
+      ∙ over-put (take (at + S - at) (drop at pair)) x (omega arith)
+      ∙ put-whole x (take (at + S - at) (drop at pair)) (omega arith)
+      ∙ own
+      ∙ w
+      ∙ ap (onWay (children S salt e) L root h) f
+      ∙ onWay-seedsAt (children S salt e) L h b root L (omega arith)
+      ∙ ap (λ (p : ℕ). getD (seedsAt (children S salt e) root L) p []) (position-last L h)
 
   -- nothing is written yet
   pub path-none : (x : List ℕ) → x ≡ flatten (pathAt (children S salt e) L root h 0) ++ drop (0 * S) x

@@ -2,9 +2,9 @@
 // lies at the start of the lent part and is spread out there, from its last seed to its first, so that no seed is overwritten before its children are made.
 // No seed chooses a branch or an address; the hidden party does, and is public by then.
 ghost use mathlib.Core.Path.{_≡_};
-ghost use mathlib.Core.List.{flatten};
+ghost use mathlib.Core.List.{[], flatten};
 ghost use Prim.Native.Nat.{_+_, _-_, _*_, _/_, _%_, _^_, _≤_, _<_};
-ghost use lib.ListN.{length, take, drop, replicate};
+ghost use lib.ListN.{length, getD, take, drop, replicate};
 ghost use Rattle.memory.specs.Lists.{put};
 ghost use Rattle.memory.specs.Sections.{pieces};
 ghost use Rattle.hashes.specs.Hashes.{childSeeds};
@@ -33,13 +33,22 @@ pub fn leaves(salt: &[u8], e: usize, root: &[u8], l: usize, out: &mut [u8])
     }
 }
 
-// GetPath, algorithm 4: fills `out` with the l seeds from which all leaves of the root but the hidden party's are made.
-pub fn path(salt: &[u8], e: usize, root: &[u8], l: usize, hidden: usize, out: &mut [u8])
-    requires { ⌜ (length (now salt) ≤ 64) × (length (now root) ≤ 32) × (l ≤ 8) × (1 ≤ hidden) × (length (now out) ≡ l * length (now root)) ⌝ }
-    ensures { λ r. ⌜ now (out .exit) ≡ flatten (getPath (children (length (now (root .entry))) (now (salt .entry)) e) l (now (root .entry)) hidden) ⌝ }
+// GetPath, algorithm 4: fills `out` with the l seeds from which all leaves of the root but the hidden party's are made, and `leaf` with the hidden party's own.
+pub fn path(
+    salt: &[u8],
+    e: usize,
+    root: &[u8],
+    l: usize,
+    hidden: usize,
+    leaf: &mut [u8],
+    out: &mut [u8],
+)
+    requires { ⌜ (length (now salt) ≤ 64) × (length (now root) ≤ 32) × (l ≤ 8) × (1 ≤ hidden) × (length (now out) ≡ l * length (now root)) × (hidden ≤ 2 ^ l) × (length (now leaf) ≡ length (now root)) ⌝ }
+    ensures path { λ r. ⌜ now (out .exit) ≡ flatten (getPath (children (length (now (root .entry))) (now (salt .entry)) e) l (now (root .entry)) hidden) ⌝ }
+    ensures leaf { λ r. ⌜ now (leaf .exit) ≡ getD (getSeeds (children (length (now (root .entry))) (now (salt .entry)) e) l (now (root .entry))) (hidden - 1) [] ⌝ }
 {
     let mut pair = [0u8; PAIR];
-    walk(salt, e, root, l, hidden, &mut pair, out);
+    walk(salt, e, root, l, hidden, &mut pair, leaf, out);
 }
 
 // GetPathSeeds, algorithm 5: fills `out` with the leaves that a path gives, each in its place, and zeros in the hidden party's place.
@@ -127,10 +136,12 @@ fn walk(
     l: usize,
     hidden: usize,
     pair: &mut [u8],
+    leaf: &mut [u8],
     out: &mut [u8],
 )
-    requires { ⌜ (length (now salt) ≤ 64) × (length (now root) ≤ 32) × (l ≤ 8) × (1 ≤ hidden) × (64 ≤ length (now pair)) × (length (now out) ≡ l * length (now root)) ⌝ }
-    ensures { λ r. ⌜ now (out .exit) ≡ flatten (getPath (children (length (now (root .entry))) (now (salt .entry)) e) l (now (root .entry)) hidden) ⌝ }
+    requires { ⌜ (length (now salt) ≤ 64) × (length (now root) ≤ 32) × (l ≤ 8) × (1 ≤ hidden) × (64 ≤ length (now pair)) × (length (now out) ≡ l * length (now root)) × (hidden ≤ 2 ^ l) × (length (now leaf) ≡ length (now root)) ⌝ }
+    ensures path { λ r. ⌜ now (out .exit) ≡ flatten (getPath (children (length (now (root .entry))) (now (salt .entry)) e) l (now (root .entry)) hidden) ⌝ }
+    ensures leaf { λ r. ⌜ now (leaf .exit) ≡ getD (getSeeds (children (length (now (root .entry))) (now (salt .entry)) e) l (now (root .entry))) (hidden - 1) [] ⌝ }
 {
     let s = root.len();
     memory::copy(root, pair);
@@ -140,6 +151,8 @@ fn walk(
         at = step(salt, e, k, (hidden - 1) >> (l - 1 - k), s, at, pair, out);
         k += 1;
     }
+    let end = at + s;
+    memory::copy(&pair[at..end], leaf);
 }
 
 // One step of the walk, to position p: the seed beside the way goes to `out`, and the place of the seed on the way is given.

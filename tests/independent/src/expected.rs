@@ -2,7 +2,12 @@
 //! hexadecimal.
 
 use crate::field::pack;
-use crate::forms::{eval_circuit, expand_circuit, linear_values};
+use crate::forms::{eval_circuit, expand_circuit, linear_values, Circuit};
+use crate::hashes::{h1, h2};
+use crate::repetition::{
+    sigma_1_part, sigma_2_part, sign_check, sign_views, verify_check, verify_views, Opening,
+    Repetition,
+};
 use crate::sampling::{expand_indexes, expand_vectors};
 use crate::sets::{parameters, Parameters};
 use crate::shake::shake256;
@@ -12,8 +17,9 @@ use crate::tree::{get_path, get_path_seeds, get_seeds};
 pub fn expected(name: &str) -> Option<String> {
     match name {
         "sponge" => Some(sponge()),
-        "tree" => Some(each_set(tree)),
-        "forms" => Some(each_set(forms)),
+        "tree" => Some(of_sets(&[1, 2, 3, 4, 5, 6], tree)),
+        "forms" => Some(of_sets(&[1, 2, 3, 4, 5, 6], forms)),
+        "parties" => Some(of_sets(&[2, 5], parties)),
         _ => None,
     }
 }
@@ -40,10 +46,10 @@ fn sponge() -> String {
     lines
 }
 
-/// The lines of a test for sets 1 to 6.
-fn each_set(lines: fn(usize, &Parameters) -> String) -> String {
-    (1..=6)
-        .map(|set| lines(set, parameters(set).unwrap()))
+/// The lines of a test for some sets.
+fn of_sets(sets: &[usize], lines: fn(usize, &Parameters) -> String) -> String {
+    sets.iter()
+        .map(|set| lines(*set, parameters(*set).unwrap()))
         .collect()
 }
 
@@ -107,6 +113,96 @@ fn forms(set: usize, p: &Parameters) -> String {
         &digest(&challenges),
     );
     lines += &line(&format!("set {set}, hidden parties less 1"), &hidden);
+    lines
+}
+
+/// One repetition, number 3, of signing and of verifying. Signing: the corrections, an element to
+/// a byte, what the repetition gives to both hashes, and both hashes of a signature that has this
+/// repetition only. Verifying, for the first, the sixth and the last party hidden: the hidden
+/// party's α, and the same again; at last for the sixth with a changed byte in the path.
+fn parties(set: usize, p: &Parameters) -> String {
+    let salt = progression(3, 1, 256, p.hash_bytes());
+    let root = progression(5, 2, 256, p.seed_bytes());
+    let message = progression(19, 4, 256, 40);
+    let f = expand_circuit(p, &progression(11, 7, 256, p.seed_bytes()));
+    let s = progression(7, 1, 16, p.n);
+    let (y, t) = eval_circuit(&s, &f);
+    let e = 3;
+    let mut signed = sign_views(p, &f, (&s, &t, &y), &salt, e, &root);
+    let hash_1 = h1(p, &salt, &message, &sigma_1_part(&signed));
+    let epsilon = &expand_vectors(&hash_1, e, p.m)[e - 1];
+    sign_check(p, &mut signed, epsilon);
+    let both = |r: &Repetition, case: &str| {
+        let hashes = [
+            h1(p, &salt, &message, &sigma_1_part(r)),
+            h2(p, &salt, &hash_1, &sigma_2_part(r)),
+        ];
+        hash_lines(&format!("set {set}, {case}"), r, &hashes)
+    };
+    let mut lines = line(&format!("set {set}, signing, delta s"), &signed.delta_s);
+    lines += &line(&format!("set {set}, signing, delta c"), &signed.delta_c);
+    lines += &both(&signed, "signing");
+    for hidden in [1, 6, p.parties()] {
+        let opening = opened(p, &signed, &salt, &root, e, hidden);
+        let case = format!("hidden {hidden}");
+        lines += &line(&format!("set {set}, {case}, alpha"), &opening.alpha);
+        lines += &both(&verified(p, &f, &t, &salt, e, epsilon, &opening), &case);
+    }
+    let mut opening = opened(p, &signed, &salt, &root, e, 6);
+    opening.path[0][0] ^= 1;
+    lines += &both(
+        &verified(p, &f, &t, &salt, e, epsilon, &opening),
+        "hidden 6, changed path",
+    );
+    lines
+}
+
+/// What a signer lets the verifier read of a repetition.
+fn opened(
+    p: &Parameters,
+    r: &Repetition,
+    salt: &[u8],
+    root: &[u8],
+    e: usize,
+    hidden: usize,
+) -> Opening {
+    Opening {
+        hidden,
+        path: get_path(p, root, salt, e, hidden, p.parties()),
+        com: r.com[&hidden].clone(),
+        delta_s: r.delta_s.clone(),
+        delta_c: r.delta_c.clone(),
+        alpha: r.alpha[&hidden].clone(),
+    }
+}
+
+/// The repetition as a verifier makes it from an opening.
+fn verified(
+    p: &Parameters,
+    f: &Circuit,
+    t: &[u8],
+    salt: &[u8],
+    e: usize,
+    epsilon: &[u8],
+    opening: &Opening,
+) -> Repetition {
+    let mut r = verify_views(p, f, t, salt, e, opening);
+    verify_check(p, &mut r, epsilon, opening);
+    r
+}
+
+/// What a repetition gives to the first and to the second hash, and both hashes.
+fn hash_lines(case: &str, r: &Repetition, hashes: &[Vec<u8>; 2]) -> String {
+    let mut lines = line(
+        &format!("{case}, commitments and corrections, digest"),
+        &digest(&sigma_1_part(r)),
+    );
+    lines += &line(&format!("{case}, first hash"), &hashes[0]);
+    lines += &line(
+        &format!("{case}, all alpha and all v, digest"),
+        &digest(&sigma_2_part(r)),
+    );
+    lines += &line(&format!("{case}, second hash"), &hashes[1]);
     lines
 }
 

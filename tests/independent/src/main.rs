@@ -13,7 +13,7 @@ fn main() {
     match answer {
         Some(text) => print!("{text}"),
         None => {
-            eprintln!("usage: independent expected sponge | tree | forms");
+            eprintln!("usage: independent expected sponge | tree | forms | parties");
             exit(2);
         }
     }

@@ -1,7 +1,6 @@
 -- `answers::absorb_group` meets its contract. Room for the packed vectors is lent.
 -- Assumes nothing.
-use mathlib.Core.Path.{_≡_, refl, sym, ap, subst, _∙_}
-use native.Mathlib.Omega.{arith}
+use mathlib.Core.Path.{refl}
 use borrow.Author.Needs.{needs}
 use Rattle.answers.proofs.absorb_group.Statement.{statement}
 use Rattle.answers.proofs.absorb_group.Tie as tie

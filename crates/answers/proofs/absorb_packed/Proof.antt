@@ -1,6 +1,6 @@
 -- `answers::absorb_packed` meets its contract. The packed vectors are the packing of all of them together.
 -- Assumes nothing.
-use mathlib.Core.Path.{_≡_, refl, sym, ap, subst, _∙_}
+use mathlib.Core.Path.{refl}
 use native.Mathlib.Omega.{arith}
 use Rattle.answers.proofs.Turning.{absorbed-packed}
 use borrow.Author.Needs.{needs}

@@ -1,7 +1,6 @@
 -- `answers::alpha_lane` meets its contract. The lanes of the words hold the answers, and lane q those of the tape.
 -- Assumes nothing.
-use mathlib.Core.Path.{_≡_, refl, sym, ap, subst, _∙_}
-use native.Mathlib.Omega.{arith}
+use mathlib.Core.Path.{sym, _∙_}
 use Rattle.answers.proofs.Turning.{zeros-sized, lent-same, lent-sized, lent-fits}
 use Rattle.answers.proofs.OneAlpha.{laneTape, holds-lanes, alpha-out}
 use borrow.Author.Needs.{needs}

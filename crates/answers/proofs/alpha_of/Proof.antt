@@ -1,6 +1,6 @@
 -- `answers::alpha_of` meets its contract. The tape of the party in its lane, and the α of that lane.
 -- Assumes nothing.
-use mathlib.Core.Path.{_≡_, refl, sym, ap, subst, _∙_}
+use mathlib.Core.Path.{refl}
 use native.Mathlib.Omega.{arith}
 use Rattle.answers.proofs.OneAlpha.{alpha-party}
 use borrow.Author.Needs.{needs}

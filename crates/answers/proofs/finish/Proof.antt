@@ -1,9 +1,6 @@
 -- `answers::finish` meets its contract. The sums are folded, and every v is absorbed with what they give.
 -- Assumes nothing.
-use mathlib.Core.Path.{_≡_, refl, sym, ap, subst, _∙_}
-use native.Mathlib.Omega.{arith}
-use Prim.Native.Nat.{ℕ, _+_, _-_, _*_, _≤_}
-use lib.ListN.{length, replicate, take, drop}
+use mathlib.Core.Path.{refl, sym, subst, _∙_}
 use Rattle.field.specs.Packing.{Elements}
 use Rattle.answers.proofs.Turning.{zeros-sized, lent-same, lent-sized, lent-fits, folded-elements, folded-same, vs-same}
 use borrow.Author.Needs.{needs}

@@ -1,83 +1,66 @@
--- `answers::first_pass` meets its contract. The invariant: the α of g groups are absorbed, the sums are over their parties, and what was kept of them stays.
+-- `answers::first_pass` meets its contract. The invariant: the α of g groups are absorbed, the sums are over their parties, what was kept of them stays, and the work begins as it did.
 -- Assumes nothing.
-use mathlib.Core.Path.{_≡_, refl, sym, ap, subst, _∙_}
+use mathlib.Core.Path.{_≡_, refl, _∙_}
 use native.Mathlib.Omega.{arith}
 use mathlib.Core.List.{flatten}
-use Prim.Native.Nat.{ℕ, _+_, _-_, _*_, _≤_, _<_}
-use lib.ListN.{length, take}
-use Rattle.memory.proofs.Lists.{room}
+use Prim.Native.Nat.{_+_, _-_, _*_, _≤_}
+use lib.ListN.{length, take, drop}
 use Rattle.field.specs.Packing.{pack}
-use Rattle.answers.specs.Passes.{alphasOf, secondFormsOf, restsOf, Passed}
+use Rattle.answers.specs.Passes.{circuitOf, leavesOf, roomAt, alphasOf, secondFormsOf, restsOf, Passed}
 use Rattle.answers.proofs.Absorbing.{Absorbing, absorbing-start, absorbing-group, absorbing-end}
-use Rattle.answers.proofs.Passing.{passed-none, passed-more, passed-at, part-length, room-bound}
+use Rattle.answers.proofs.Passing.{passed-none, passed-more, passed-at}
 use Rattle.answers.proofs.Sizes.{length-alphas, alphas-vectors}
-use Rattle.answers.proofs.Turning.{lent-kept}
-use borrow.Author.Needs.{needs}
+use Rattle.answers.proofs.Work.{part-same, turn-front}
 use Rattle.answers.proofs.first_pass.Statement.{statement}
 use Rattle.answers.proofs.first_pass.Tie as tie
 
 abbrev Inv-loop : tie.InvT-loop
-Inv-loop rep salt leaves circuit values sa₀ sy₀ sw₀ room₀ size groups s₀ g₀ sa sy sw room s g = (g ≤ rep .groups) × (length sa ≡ length sa₀) × (length sy ≡ length sy₀) × (length sw ≡ length sw₀) × (length room ≡ length room₀)
-    × Absorbing s₀ s (pack (flatten (take (16 * g) (alphasOf rep circuit salt leaves values)))) g
-    × Passed g (rep .m) (alphasOf rep circuit salt leaves values) (secondFormsOf rep circuit salt leaves values) (restsOf rep circuit salt leaves values) sa sy sw room
+Inv-loop rep salt values sa₀ sy₀ sw₀ work₀ groups s₀ g₀ sa sy sw work s g = (g ≤ rep .groups) × (length sa ≡ length sa₀) × (length sy ≡ length sy₀) × (length sw ≡ length sw₀) × (length work ≡ length work₀)
+    × Absorbing s₀ s (pack (flatten (take (16 * g) (alphasOf rep (circuitOf rep work₀) salt (leavesOf rep work₀) values)))) g
+    × Passed g (rep .m) (alphasOf rep (circuitOf rep work₀) salt (leavesOf rep work₀) values) (secondFormsOf rep (circuitOf rep work₀) salt (leavesOf rep work₀) values) (restsOf rep (circuitOf rep work₀) salt (leavesOf rep work₀) values) sa sy sw (drop (roomAt rep) work)
+    × (take (roomAt rep) work ≡ take (roomAt rep) work₀)
 
 abbrev μ-loop : tie.MeasureT-loop
-μ-loop rep salt leaves circuit values sa₀ sy₀ sw₀ room₀ size groups s₀ g₀ sa sy sw room s g = rep .groups - g
-
-mul-size : tie.Need-mul-size Inv-loop μ-loop
-mul-size c = let z = c .before .before .before .before .before .before .before .before .before .pre .0 .equations in omega arith
+μ-loop rep salt values sa₀ sy₀ sw₀ work₀ groups s₀ g₀ sa sy sw work s g = rep .groups - g
 
 loop-holds : tie.Need-loop-holds Inv-loop μ-loop
 loop-holds c =
-    let s = c .before .before .before .before .before .before .before .before .before in
-    (omega arith, refl, refl, refl, refl, absorbing-start _ (alphasOf (s .args .rep) (s .args .circuit .now) (s .args .salt .now) (s .args .leaves .now) (s .args .values .now)), passed-none _ _ _ _ _ _ _ _ (s .pre .10) (s .pre .11) (s .pre .12))
-
-mul-a : tie.Need-mul-a Inv-loop μ-loop
-mul-a c = let s = c .before .before .before .before .before .before .before .before .before .before .before in omega (arith, room-bound (c .before .loop .g) (s .args .rep .groups) (s .args .rep .m) (c .loop-test .taken) (s .pre .0 .groups) (s .pre .0 .equations))
-
-add-e : tie.Need-add-e Inv-loop μ-loop
-add-e c = let s = c .before .before .before .before .before .before .before .before .before .before .before in omega (arith, room-bound (c .before .loop .g) (s .args .rep .groups) (s .args .rep .m) (c .loop-test .taken) (s .pre .0 .groups) (s .pre .0 .equations))
-
-sub-turn : tie.Need-sub-turn Inv-loop μ-loop
-sub-turn c = omega arith
-
-part-turn-start : tie.Need-part-turn-start Inv-loop μ-loop
-part-turn-start c = omega arith
-
-part-turn-end : tie.Need-part-turn-end Inv-loop μ-loop
-part-turn-end c = let l = c .before .before .before .before .before .before .before .before .before .before .before .before .before .before .pre .13 in let i = c .before .before .before .before .loop .inv .4 in omega (arith, (room (c .before .before .before .before .loop .g) (c .before .before .before .before .before .before .before .before .before .before .before .before .before .before .args .rep .groups) (16 * c .before .before .before .before .before .before .before .before .before .before .before .before .before .before .args .rep .m) (c .before .before .before .loop-test .taken)))
+    let s = c .before .before .before .before .before .before in
+    let r = s .args .rep in
+    let w = s .args .work .now in
+    (omega arith, refl, refl, refl, refl, absorbing-start _ (alphasOf r (circuitOf r w) (s .args .salt .now) (leavesOf r w) (s .args .values .now)), passed-none _ _ _ _ _ _ _ _ (s .pre .8) (s .pre .9) (s .pre .10), refl)
 
 turn-requires : tie.Need-turn-requires Inv-loop μ-loop
 turn-requires c κs =
-    let s = c .before .before .before .before .before .before .before .before .before .before .before .before .before .before .before in
-    let l = s .pre .13 in
+    let s = c .before .before .before .before .before .before .before .before .before .before .before .before in
     let i = c .before .before .before .before .before .loop .inv in
-    (s .pre .0, c .before .before .before .before .loop-test .taken, s .pre .2, s .pre .3, s .pre .4, s .pre .5, s .pre .6, i .1 ∙ s .pre .7, i .2 ∙ s .pre .8, i .3 ∙ s .pre .9, part-length _ _ _ _ _ _ _ _ _ (i .6) (c .before .before .before .before .before .loop .g * (16 * s .args .rep .m)) (16 * s .args .rep .m) (let j = i .4 in omega (arith, (room (c .before .before .before .before .before .loop .g) (c .before .before .before .before .before .before .before .before .before .before .before .before .before .before .before .args .rep .groups) (16 * c .before .before .before .before .before .before .before .before .before .before .before .before .before .before .before .args .rep .m) (c .before .before .before .before .loop-test .taken)))))
+    (s .pre .0, c .before .before .before .before .loop-test .taken, s .pre .2, s .pre .3, s .pre .4, i .1 ∙ s .pre .5, i .2 ∙ s .pre .6, i .3 ∙ s .pre .7, i .4 ∙ s .pre .11)
 
 add-g : tie.Need-add-g Inv-loop μ-loop
-add-g c = let t = c .before .before .before .before .before .before .before .before .before .before .before .before .before .loop-test .taken in let z = c .before .before .before .before .before .before .before .before .before .before .before .before .before .before .before .before .before .before .before .before .before .before .before .before .pre .0 .groups in omega arith
+add-g c = let t = c .before .before .before .before .before .before .before .before .before .before .before .before .before .loop-test .taken in let z = c .before .before .before .before .before .before .before .before .before .before .before .before .before .before .before .before .before .before .before .before .before .pre .0 .groups in omega arith
 
 loop-less : tie.Need-loop-less Inv-loop μ-loop
 loop-less c = let t = c .before .before .before .before .before .before .before .before .before .before .before .before .before .loop-test .taken in omega arith
 
 loop-again : tie.Need-loop-again Inv-loop μ-loop
 loop-again c =
-    let s = c .before .before .before .before .before .before .before .before .before .before .before .before .before .before .before .before .before .before .before .before .before .before .before .before in
-    let l = s .pre .13 in
-    let i = c .before .before .before .before .before .before .before .before .before .before .before .before .before .before .loop .inv in
-    let j = i .4 in
-    let t = c .before .before .before .before .before .before .before .before .before .before .before .before .before .loop-test .taken in
-    let r = (room (c .before .before .before .before .before .before .before .before .before .before .before .before .before .before .loop .g) (c .before .before .before .before .before .before .before .before .before .before .before .before .before .before .before .before .before .before .before .before .before .before .before .before .args .rep .groups) (16 * c .before .before .before .before .before .before .before .before .before .before .before .before .before .before .before .before .before .before .before .before .before .before .before .before .args .rep .m) (c .before .before .before .before .before .before .before .before .before .before .before .before .before .loop-test .taken)) in
-    let k = c .before .before .before .before .before .before .before .before .turn .kept .1 .1 .1 .1 .1 .1 .1 .1 .1 .1 .0 in
-    let n = length-alphas (s .args .rep) (s .args .salt .now) (s .args .leaves .now) (s .args .values .now) (s .pre .5) (s .args .circuit .now) in
-    let p = part-length _ _ _ _ _ _ _ _ _ (i .6) (c .before .before .before .before .before .before .before .before .before .before .before .before .before .before .loop .g * (16 * s .args .rep .m)) (16 * s .args .rep .m) (omega arith) in (
+    let s = c .before .before .before .before .before .before .before .before .before .before .before .before .before .before .before .before .before .before .before .before .before in
+    let r = s .args .rep in
+    let w = s .args .work .now in
+    let l = c .before .before .before .before .before .before .before .before .before .before .before .before .before .before .loop in
+    let i = l .inv in
+    let b = c .before .before .before .before .before .before .before .before .before .before .before .before .before .loop-test .taken in
+    let t = c .before .before .before .before .before .before .before .before .turn in
+    let n = length-alphas r (s .args .salt .now) (leavesOf r w) (s .args .values .now) (s .pre .3) (circuitOf r w) in
+    let same = turn-front r (l .g) _ _ (l .work) w _ _ _ _ _ _ _ _ _ (i .7) (t .ensures .0) in (
       omega arith,
-      c .before .before .before .before .before .before .before .before .turn .kept .1 .1 .1 .1 .1 .1 .1 .0 ∙ i .1,
-      c .before .before .before .before .before .before .before .before .turn .kept .1 .1 .1 .1 .1 .1 .1 .1 .0 ∙ i .2,
-      c .before .before .before .before .before .before .before .before .turn .kept .1 .1 .1 .1 .1 .1 .1 .1 .1 .0 ∙ i .3,
-      lent-kept (c .before .before .before .before .before .before .before .before .before .before .before .before .before .before .loop .room) (c .before .before .before .before .before .before .before .before .turn .last .1 .1 .1 .1 .1 .1 .1 .1 .1 .1 .0) (c .before .before .before .before .before .before .before .before .before .before .before .before .before .before .loop .g * (16 * s .args .rep .m)) (c .before .before .before .before .before .before .before .before .before .before .before .before .before .before .loop .g * (16 * s .args .rep .m) + 16 * s .args .rep .m) (omega arith) (omega arith) k ∙ i .4,
-      absorbing-group (s .args .rep .m) _ (alphas-vectors (s .args .rep) (s .args .salt .now) (s .args .leaves .now) (s .args .values .now) (s .pre .5) (s .args .circuit .now)) (c .before .before .before .before .before .before .before .before .before .before .before .before .before .before .loop .g) (omega arith) _ _ _ (i .5) (c .before .before .before .before .before .before .before .before .turn .ensures .absorbs),
-      passed-more (c .before .before .before .before .before .before .before .before .before .before .before .before .before .before .loop .g) (s .args .rep .m) _ _ _ _ _ _ _ _ _ _ _ (c .before .before .before .before .before .before .before .before .before .before .before .before .before .before .loop .room) (c .before .before .before .before .before .before .before .before .turn .last .1 .1 .1 .1 .1 .1 .1 .1 .1 .1 .0) (c .before .before .before .before .before .before .before .before .before .before .before .before .before .before .loop .g * (16 * s .args .rep .m)) (c .before .before .before .before .before .before .before .before .before .before .before .before .before .before .loop .g * (16 * s .args .rep .m) + 16 * s .args .rep .m) refl refl (omega arith) (k ∙ p ∙ (let q : 16 * s .args .rep .m ≡ c .before .before .before .before .before .before .before .before .before .before .before .before .before .before .loop .g * (16 * s .args .rep .m) + 16 * s .args .rep .m - c .before .before .before .before .before .before .before .before .before .before .before .before .before .before .loop .g * (16 * s .args .rep .m) = omega arith in q)) (i .6) (c .before .before .before .before .before .before .before .before .turn .ensures),
+      t .kept .1 .1 .1 .1 .1 .0 ∙ i .1,
+      t .kept .1 .1 .1 .1 .1 .1 .0 ∙ i .2,
+      t .kept .1 .1 .1 .1 .1 .1 .1 .0 ∙ i .3,
+      t .kept .1 .1 .1 .1 .1 .1 .1 .1 .0 ∙ i .4,
+      absorbing-group (r .m) _ (alphas-vectors r (s .args .salt .now) (leavesOf r w) (s .args .values .now) (s .pre .3) (circuitOf r w)) (l .g) (omega arith) _ _ _ (i .5) (same .absorbs),
+      passed-more (l .g) (r .m) (roomAt r) _ _ _ _ _ _ _ _ _ _ _ (l .work) (t .last .1 .1 .1 .1 .1 .1 .1 .1 .0) (t .ensures .1) (i .6) same,
+      part-same (t .last .1 .1 .1 .1 .1 .1 .1 .1 .0) (l .work) 0 (roomAt r) (roomAt r + l .g * (16 * r .m)) (omega arith) (t .ensures .1) ∙ i .7,
     )
 
 same-length : tie.Need-same-length Inv-loop μ-loop
@@ -94,14 +77,16 @@ same-length-4 c = c .before .loop .inv .4
 
 returns : tie.Need-returns Inv-loop μ-loop
 returns c =
-    let s = c .before .before .before .before .before .before .before .before .before .before .before in
+    let s = c .before .before .before .before .before .before .before .before in
+    let r = s .args .rep in
+    let w = s .args .work .now in
     let i = c .before .loop .inv in
     let b = i .0 in
     let t = c .loop-test .left in
+    let e : c .before .loop .g ≡ r .groups = omega arith in
+    let n = length-alphas r (s .args .salt .now) (leavesOf r w) (s .args .values .now) (s .pre .3) (circuitOf r w) in
     let o = s .pre .1 in
-    let e : c .before .loop .g ≡ s .args .rep .groups = omega arith in
-    let n = length-alphas (s .args .rep) (s .args .salt .now) (s .args .leaves .now) (s .args .values .now) (s .pre .5) (s .args .circuit .now) in
-    (absorbing-end _ (c .before .loop .g) _ _ (omega arith) (omega arith) (i .5), passed-at _ _ _ _ _ _ _ _ _ _ e (i .6))
+    (absorbing-end _ (c .before .loop .g) _ _ (omega arith) (omega arith) (i .5), (passed-at _ _ _ _ _ _ _ _ _ _ e (i .6), i .7))
 
 pub first-pass-spec : {M : Type 1} → statement M
 first-pass-spec =
@@ -109,13 +94,7 @@ first-pass-spec =
     (tie.spec
     Inv-loop
     μ-loop
-    mul-size
     loop-holds
-    mul-a
-    add-e
-    sub-turn
-    part-turn-start
-    part-turn-end
     turn-requires
     add-g
     loop-less

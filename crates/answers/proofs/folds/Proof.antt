@@ -1,7 +1,6 @@
 -- `answers::folds` meets its contract. The lanes of the sums are folded.
 -- Assumes nothing.
-use mathlib.Core.Path.{_≡_, refl, sym, ap, subst, _∙_}
-use native.Mathlib.Omega.{arith}
+use mathlib.Core.Path.{refl}
 use Rattle.answers.proofs.Turning.{folded-sums}
 use borrow.Author.Needs.{needs}
 use Rattle.answers.proofs.folds.Statement.{statement}

@@ -1,6 +1,6 @@
 -- `answers::lane_into` meets its contract. The invariant: the bytes below k are the lanes of their words.
 -- Assumes nothing.
-use mathlib.Core.Path.{_≡_, refl, sym, ap, subst, _∙_}
+use mathlib.Core.Path.{_≡_, refl}
 use native.Mathlib.Omega.{arith}
 use Prim.Native.Nat.{_-_, _≤_}
 use lib.ListN.{length, length-set}
@@ -8,7 +8,6 @@ use Rattle.field.specs.Vectors.{_!_}
 use Rattle.lanes.specs.Lanes.{lane}
 use Rattle.marks.specs.Marks.{EachWord}
 use Rattle.memory.proofs.Groups.{Stepped, stepped-none, stepped-more, stepped-all}
-use borrow.Author.Needs.{needs}
 use Rattle.answers.proofs.lane_into.Statement.{statement}
 use Rattle.answers.proofs.lane_into.Tie as tie
 

@@ -1,18 +1,15 @@
 -- `answers::second_pass` meets its contract. The invariant: the v of g groups are absorbed.
 -- Assumes nothing.
-use mathlib.Core.Path.{_≡_, refl, sym, ap, subst, _∙_}
 use native.Mathlib.Omega.{arith}
 use mathlib.Core.List.{List, flatten}
-use Prim.Native.Nat.{ℕ, _+_, _-_, _*_, _≤_, _<_}
-use lib.ListN.{length, take, drop, length-drop}
-use lib.Seq.{length-take-le}
+use Prim.Native.Nat.{ℕ, _-_, _*_, _≤_, _<_}
+use lib.ListN.{take, drop}
 use Rattle.memory.proofs.Lists.{room}
 use Rattle.field.specs.Packing.{pack}
 use Rattle.answers.specs.Passes.{VsOf, HoldsGroup}
 use Rattle.answers.proofs.Absorbing.{Absorbing, absorbing-start, absorbing-group, absorbing-end}
 use Rattle.group.proofs.Shares.{part-sized}
 use Rattle.answers.proofs.Turning.{vs-vectors, part-again}
-use borrow.Author.Needs.{needs}
 use Rattle.answers.proofs.second_pass.Statement.{statement}
 use Rattle.answers.proofs.second_pass.Tie as tie
 

@@ -1,7 +1,6 @@
 -- `answers::taken` meets its contract. Each step is promised word by word, and the bytes of y and of the rest lie one after the other.
 -- Assumes nothing.
-use mathlib.Core.Path.{_≡_, refl, sym, ap, subst, _∙_}
-use native.Mathlib.Omega.{arith}
+use mathlib.Core.Path.{refl}
 use lib.ListN.{length}
 use Rattle.answers.proofs.Turning.{summed, held-group}
 use borrow.Author.Needs.{needs}

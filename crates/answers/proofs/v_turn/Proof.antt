@@ -1,9 +1,8 @@
 -- `answers::v_turn` meets its contract. The words hold the v of the group in their lanes, so their packing is absorbed.
 -- Assumes nothing.
-use mathlib.Core.Path.{_≡_, refl, sym, ap, subst, _∙_}
+use mathlib.Core.Path.{sym, subst}
 use native.Mathlib.Omega.{arith}
-use Prim.Native.Nat.{ℕ, _+_, _-_, _*_, _≤_}
-use lib.ListN.{length, replicate, take, drop}
+use Prim.Native.Nat.{ℕ, _≤_}
 use Rattle.answers.specs.Passes.{VWords}
 use Rattle.answers.proofs.Turning.{zeros-sized, lent-same, lent-sized, lent-fits, v-packs}
 use borrow.Author.Needs.{needs}

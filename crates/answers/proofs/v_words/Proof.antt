@@ -1,6 +1,6 @@
 -- `answers::v_words` meets its contract. y and the rest are read back, multiplied and added, and the hidden v is put in.
 -- Assumes nothing.
-use mathlib.Core.Path.{_≡_, refl, sym, ap, subst, _∙_}
+use mathlib.Core.Path.{refl}
 use native.Mathlib.Omega.{arith}
 use Rattle.marks.proofs.Marks.{mark-flags}
 use Rattle.answers.proofs.Turning.{v-words}

@@ -1,0 +1,3 @@
+pub mod Showing
+pub mod Turning
+pub mod Signed

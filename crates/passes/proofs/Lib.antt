@@ -1,0 +1,5 @@
+pub mod Bounds
+pub mod Planting
+pub mod Placing
+pub mod Committing
+pub mod Signers

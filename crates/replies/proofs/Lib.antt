@@ -1,0 +1,6 @@
+pub mod Values
+pub mod Signed
+pub mod Lending
+pub mod Answering
+pub mod Hiding
+pub mod Expanded

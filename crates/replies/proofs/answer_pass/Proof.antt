@@ -1,0 +1,89 @@
+-- `replies::answer_pass` meets its contract. The invariant: for every signer that has what is lent, the second hash has absorbed `done` repetitions.
+-- Assumes nothing.
+use mathlib.Core.Path.{_≡_, refl, _∙_}
+use native.Mathlib.Omega.{arith}
+use mathlib.Core.List.{List}
+use Prim.Native.Nat.{ℕ, _-_, _≤_}
+use lib.ListN.{length, drop}
+use Rattle.answers.proofs.Absorbing.{Absorbing, absorbing-none}
+use Rattle.biscuit.specs.Signature.{repeated}
+use Rattle.biscuit.specs.Room.{rootsAt}
+use Rattle.biscuit.specs.Sign.{Signer}
+use Rattle.biscuit.proofs.Refusals.{workLength-is}
+use Rattle.passes.specs.Passes.{HoldsRoots, Kept}
+use Rattle.passes.proofs.Committing.{kept-none, kept-more, roots-kept}
+use Rattle.replies.specs.Replies.{Challenged}
+use Rattle.replies.proofs.Answering.{answersUpTo, answering-more, answered-all, challenged-kept}
+use Rattle.replies.proofs.answer_pass.Statement.{statement}
+use Rattle.replies.proofs.answer_pass.Tie as tie
+
+abbrev Inv-loop : tie.InvT-loop
+Inv-loop p salt secret packing work₀ tau next₀ done₀ work next done =
+    (done ≤ p .tau) × (length work ≡ length work₀) × Kept p work₀ work
+    × ((signer : Signer) (msg : List ℕ) → Challenged p signer msg salt secret packing work₀ → HoldsRoots p signer (drop (rootsAt p) work₀) → Absorbing next₀ next (answersUpTo p signer msg done) done)
+
+abbrev μ-loop : tie.MeasureT-loop
+μ-loop p salt secret packing work₀ tau next₀ done₀ work next done = p .tau - done
+
+loop-holds : tie.Need-loop-holds Inv-loop μ-loop
+unfolding repeated
+loop-holds c = (omega arith, refl, kept-none _ _, λ signer msg h k. absorbing-none _)
+
+add-answer-turn : tie.Need-add-answer-turn Inv-loop μ-loop
+add-answer-turn c = let b = c .before .before .before .before .before .before .pre .0 .repetitions in omega arith
+
+answer-turn-requires : tie.Need-answer-turn-requires Inv-loop μ-loop
+answer-turn-requires c κs =
+    let h = c .before .before .before .before .before .before .before .pre in
+    let i = c .before .before .loop .inv in
+    let t = c .before .loop-test .taken in
+    (h .0, omega arith, omega arith, h .1, h .2, h .3, h .4, i .1 ∙ h .5)
+
+add-done : tie.Need-add-done Inv-loop μ-loop
+add-done c = let b = c .before .before .before .before .before .before .before .before .before .before .pre .0 .repetitions in let t = c .before .before .before .before .loop-test .taken in omega arith
+
+loop-less : tie.Need-loop-less Inv-loop μ-loop
+loop-less c = let t = c .before .before .before .before .loop-test .taken in omega arith
+
+loop-again : tie.Need-loop-again Inv-loop μ-loop
+loop-again c =
+    let s = c .before .before .before .before .before .before .before .before .before .before in
+    let l = c .before .before .before .before .before .loop in
+    let i = l .inv in
+    let t = c .before .before .before .before .loop-test .taken in
+    let u = c .before .before .answer-turn in
+    let w = i .1 ∙ s .pre .5 ∙ workLength-is in (
+      omega arith,
+      u .kept .1 .1 .1 .1 .1 .1 .0 ∙ i .1,
+      kept-more _ _ _ _ (i .2) (u .ensures .1),
+      λ signer msg h k. answering-more (s .args .p) (s .pre .0) signer msg (s .args .salt .now) (s .args .secret .now) (s .args .packing .now) (l .work) (l .done) _ _ _ (s .pre .2) w (challenged-kept _ signer msg _ _ _ _ _ (i .2) h) (roots-kept _ signer _ _ (i .2) k) t (i .3 signer msg h k) (u .ensures .0),
+    )
+
+same-length : tie.Need-same-length Inv-loop μ-loop
+same-length c = c .before .loop .inv .1
+
+returns : tie.Need-returns Inv-loop μ-loop
+returns c =
+    let s = c .before .before .before .before .before .before in
+    let l = c .before .loop in
+    let i = l .inv in
+    let b = i .0 in
+    let t = c .loop-test .left in
+    let e : l .done ≡ s .args .p .tau = omega arith in
+    let o = s .pre .0 .«repeated» in
+    (λ signer msg h k. answered-all _ signer msg _ _ _ e o (i .3 signer msg h k), i .2)
+
+pub answer-pass-spec : {M : Type 1} → statement M
+answer-pass-spec =
+    tie.close
+    (tie.spec
+    Inv-loop
+    μ-loop
+    loop-holds
+    add-answer-turn
+    answer-turn-requires
+    add-done
+    loop-less
+    loop-again
+    same-length
+    returns)

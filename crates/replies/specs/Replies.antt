@@ -1,0 +1,70 @@
+-- Phases 3 and 5 of signing over all repetitions: what a signer of algorithm 12 has after phases 2 and 4, as it is lent, and what one repetition takes from it. Assumes nothing.
+use mathlib.Core.Path.{_≡_}
+use mathlib.Core.List.{List, [], _++_}
+use Prim.Native.Nat.{ℕ, _+_, _-_, _*_, _≤_}
+use lib.ListN.{getD, take, drop, replicate}
+use Rattle.sets.specs.Sets.{S}
+use Rattle.sets.specs.declared.Params.{Params}
+use Rattle.forms.specs.Circuit.{Circuit}
+use Rattle.forms.specs.Room.{HoldsCircuit, challengeIn, hiddenIn}
+use Rattle.parties.specs.Parties.{corrected, alphaOf}
+use Rattle.parties.specs.Repetition.{rawShare}
+use Rattle.group.specs.declared.Rep.{Rep}
+use Rattle.group.specs.Shares as shares
+use Rattle.answers.specs.Answers.{sharesOf, answered}
+use Rattle.vectors.specs.Elements.{elementsAt}
+use Rattle.biscuit.specs.Sign.{Signer, f, seeds, ε, αs, hidden}
+use Rattle.biscuit.specs.Room.{groups, leavesAt, challengesAt}
+use Rattle.passes.specs.Passes.{rootIn, tIn, HoldsSecret, HoldsCorrections}
+
+-- ---- what is lent
+
+-- the bytes begin with the challenges of all repetitions
+unfoldable pub HoldsChallenges : Params → Signer → List ℕ → List ℕ → Type 0
+HoldsChallenges P signer msg challenges = (e : ℕ) → 1 ≤ e → e ≤ P .tau → challengeIn (P .m) challenges e ≡ ε P signer msg e
+
+-- after phase 2: the secret and the salt, the circuit, the challenges, and the corrections of all repetitions
+pub record Challenged (P : Params) (signer : Signer) (msg salt secret packing work : List ℕ) : Type 0 where
+  pub held : HoldsSecret P signer salt secret
+  pub circuit : HoldsCircuit (P .n) (P .m) (f P signer) (take (leavesAt P) work)
+  pub challenges : HoldsChallenges P signer msg (drop (challengesAt P) work)
+  pub corrections : HoldsCorrections P signer (P .tau) packing
+
+-- after phase 4: a byte for each repetition gives its hidden party
+unfoldable pub HoldsHidden : Params → Signer → List ℕ → List ℕ → Type 0
+HoldsHidden P signer msg bytes = (e : ℕ) → 1 ≤ e → e ≤ P .tau → hiddenIn (P .l) bytes e ≡ hidden P signer msg e
+
+-- the bytes begin with the leaves of the hidden parties of all repetitions
+unfoldable pub HoldsLeaves : Params → Signer → List ℕ → List ℕ → Type 0
+HoldsLeaves P signer msg leaves = (e : ℕ) → 1 ≤ e → e ≤ P .tau → rootIn (S P) leaves e ≡ getD (seeds P signer e) (hidden P signer msg e - 1) []
+
+-- ---- one repetition
+
+-- the numbers of repetition e, with nobody left out
+abbrev pub repOf : Params → ℕ → Rep
+repOf P e = record { s = S P; n = P .n; m = P .m; e = e; hidden = 0; groups = groups P }
+
+-- Δs, Δc, the challenge and t of repetition e, and no given α
+unfoldable pub valuesIn : Params → ℕ → List ℕ → List ℕ → List ℕ → List ℕ
+valuesIn P e secret packing challenges =
+    elementsAt packing ((e - 1) * (P .n + P .m)) (P .n + P .m) ++ (challengeIn (P .m) challenges e ++ (tIn P secret ++ replicate (P .m) 0))
+
+-- lines 26 to 34: what the second hash takes
+unfoldable pub answersIn : Params → Circuit → ℕ → List ℕ → List ℕ → List ℕ → List ℕ
+answersIn P f e salt values leaves = answered f (repOf P e) values (sharesOf P (repOf P e) salt leaves values)
+
+-- line 27: the α of party i
+unfoldable pub alphaIn : Params → Circuit → ℕ → ℕ → List ℕ → List ℕ → List ℕ → List ℕ
+alphaIn P f e i salt values leaf =
+    alphaOf f (shares.epsilon (repOf P e) values) i (corrected (shares.deltaS (repOf P e) values) (shares.deltaC (repOf P e) values) i (rawShare P salt e i leaf))
+
+-- ---- the packing of a signature
+
+-- where the hidden α of repetition e lies, in half bytes: behind all corrections
+unfoldable pub alphaAt : Params → ℕ → ℕ
+alphaAt P e = P .tau * (P .n + P .m) + (e - 1) * P .m
+
+-- line 40: the hidden α of the repetitions up to `count`
+unfoldable pub HoldsAlphas : Params → Signer → List ℕ → ℕ → List ℕ → Type 0
+HoldsAlphas P signer msg count packing =
+    (e : ℕ) → 1 ≤ e → e ≤ count → elementsAt packing (alphaAt P e) (P .m) ≡ getD (αs P signer msg e) (hidden P signer msg e - 1) []

@@ -1,0 +1,2 @@
+-- What the proofs of `test_tree` cite. Assumes nothing.
+pub mod Sizes

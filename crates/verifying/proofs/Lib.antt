@@ -1,0 +1,6 @@
+pub mod Expanding
+pub mod Hashing
+pub mod Leaves
+pub mod Reading
+pub mod Sizes
+pub mod Turning

@@ -1,0 +1,65 @@
+-- What the steps of verifying promise each other (algorithm 13 of the submission): what is expanded once, what stands ready for one repetition, and how far the two hashes are.
+-- Assumes nothing.
+use mathlib.Core.List.{List, _++_, flatten}
+use mathlib.Core.Path.{_≡_}
+use Prim.Native.Nat.{ℕ, _-_, _≤_}
+use lib.ListN.{take, drop, replicate}
+use Rattle.sponge.specs.Steps.{fresh, absorbed}
+use Rattle.sets.specs.Sets.{S}
+use Rattle.sets.specs.declared.Params.{Params}
+use Rattle.hashes.specs.Hashes.{firstFields, secondFields}
+use Rattle.tree.specs.Tree.{filled}
+use Rattle.forms.specs.Room.{HoldsCircuit, challengeIn, hiddenIn}
+use Rattle.parties.specs.Repetition.{first, second}
+use Rattle.biscuit.specs.Keys.{PublicKey}
+use Rattle.biscuit.specs.Signature.{Signature, repeated}
+use Rattle.biscuit.specs.Verify as verify
+use Rattle.biscuit.specs.Room.{leavesAt, roomAt, challengesAt, roomEnd}
+use Rattle.verifying.specs.declared.Both.{Both}
+
+-- ---- parts of work
+
+abbrev pub circuitOf : Params → List ℕ → List ℕ
+circuitOf P work = take (leavesAt P) work
+
+abbrev pub leavesOf : Params → List ℕ → List ℕ
+leavesOf P work = take (roomAt P - leavesAt P) (drop (leavesAt P) work)
+
+abbrev pub challengesOf : Params → List ℕ → List ℕ
+challengesOf P work = take (roomEnd P - challengesAt P) (drop (challengesAt P) work)
+
+module _ (P : Params) (key : PublicKey) (σ : Signature) where
+  -- ---- once for all repetitions
+
+  -- lines 3, 5 and 6: the circuit and the challenges stand in work, the hidden parties in a list of their own
+  pub record Expanded (parties work : List ℕ) : Type 0 where
+    pub circuit : HoldsCircuit (P .n) (P .m) (verify.f P key) (circuitOf P work)
+    pub challenge : (e : ℕ) → 1 ≤ e → e ≤ P .tau → challengeIn (P .m) (challengesOf P work) e ≡ verify.ε P key σ e
+    pub hidden : (e : ℕ) → 1 ≤ e → e ≤ P .tau → hiddenIn (P .l) parties e ≡ verify.hidden P key σ e
+
+  -- ---- for one repetition
+
+  -- Δs ‖ Δc ‖ challenge ‖ t ‖ α, an element to a byte
+  unfoldable pub valuesOf : ℕ → List ℕ
+  valuesOf e = (σ .opening e .Δs ++ σ .opening e .Δc) ++ (verify.ε P key σ e ++ (key .t ++ σ .opening e .α))
+
+  -- line 10: the seeds of the other parties, each in its place, and zeros in the hidden party's
+  unfoldable pub leaves : ℕ → List ℕ
+  leaves e = flatten (filled (replicate (S P) 0) (verify.seeds P key σ e))
+
+  -- lines 32 and 34: what a repetition gives to the two hashes
+  unfoldable pub firstOf : ℕ → List ℕ
+  firstOf e = first (verify.coms P key σ e) (σ .opening e .Δs) (σ .opening e .Δc)
+
+  unfoldable pub secondOf : ℕ → List ℕ
+  secondOf e = second (verify.αs P key σ e) (verify.allV P key σ e)
+
+  -- one repetition more
+  pub record Turned (e : ℕ) (before after : Both) : Type 0 where
+    pub first : after .first ≡ absorbed (before .first) (firstOf e)
+    pub second : after .second ≡ absorbed (before .second) (secondOf e)
+
+  -- ---- both hashes after e repetitions, with the signature's h₁ in the second
+  pub record Hashed (message : List ℕ) (e : ℕ) (both : Both) : Type 0 where
+    pub first : both .first ≡ absorbed fresh (firstFields (σ .salt) message (repeated e firstOf))
+    pub second : both .second ≡ absorbed fresh (secondFields (σ .salt) (σ .h₁) (repeated e secondOf))
