@@ -7,13 +7,15 @@ use Prim.Native.Nat.{ℕ, _-_}
 use native.Mathlib.Omega.{arith}
 use lib.ListN.{length, take}
 use Rattle.memory.specs.Lists.{over}
-use Rattle.sets.specs.Sets.{S, paramsOf, secretKeyLength, publicKeyLength}
+use Rattle.sets.specs.Sets.{S, paramsOf, secretKeyLength, publicKeyLength, signatureLength}
 use Rattle.sets.specs.declared.Params.{Params}
-use Rattle.biscuit.specs.Desk.{workLength, cleared, makeKeysSizes, makeKeysEnded, makeKeysOutcome, publicHalfSizes, publicHalfEnded, publicHalfOutcome}
+use Rattle.biscuit.specs.Desk.{workLength, cleared, makeKeysSizes, makeKeysEnded, makeKeysOutcome, publicHalfSizes, publicHalfEnded, publicHalfOutcome, signSizes, signEnded, signOutcome, verifySizes, verifyEnded, verifyOutcome}
 use Rattle.biscuit.specs.Keys.{secretKey, publicKey, consistentKey, publicHalf}
+use Rattle.biscuit.specs.Sign.{signature}
+use Rattle.biscuit.specs.Verify.{accepts}
 use Rattle.biscuit.specs.Room.{Fits}
-use Rattle.biscuit.proofs.Outcomes.{make-keys-done, public-half-done, public-half-inconsistent}
-use Rattle.biscuit.proofs.Refusals.{MakeKeysRight, PublicHalfRight}
+use Rattle.biscuit.proofs.Outcomes.{make-keys-done, public-half-done, public-half-inconsistent, sign-done, sign-inconsistent, verify-genuine, verify-not-accepted}
+use Rattle.biscuit.proofs.Refusals.{MakeKeysRight, PublicHalfRight, SignRight, VerifyRight}
 use Rattle.calls.proofs.Lending.{known-fits, length-lent}
 
 -- ---- make keys
@@ -67,3 +69,52 @@ module _ (set : ℕ) (p : Params) (param : p ≡ paramsOf set) (sk pk work : Lis
       let kept = e ∙ ap (λ (x : Bool). cond x (over (publicHalf p sk) pk) pk) (sym told) in
       let ended : publicHalfEnded 8 pkAfter workAfter ≡ publicHalfEnded 8 pk (cleared work) = cc in
       ended ∙ public-half-inconsistent set sk pk work r inconsistent
+
+-- ---- sign
+
+module _ (set : ℕ) (p : Params) (param : p ≡ paramsOf set) (sk msg rnd sig work : List ℕ) where
+  pub sign-asked : SignRight set (length sk) (length msg) (length rnd) (length sig) (length work) → (a n : ℕ) → a ≡ signatureLength (paramsOf set) → n ≡ workLength
+      → Fits p × (length sk ≡ secretKeyLength p) × (length (take (a - 0) sig) ≡ signatureLength p) × (length (take (n - 0) work) ≡ workLength)
+  sign-asked r a n ea en = (
+    known-fits set p param (r .known),
+    r .secretKey ∙ ap secretKeyLength (sym param),
+    length-lent sig a (let h = r .signature in omega arith) ∙ ea ∙ ap signatureLength (sym param),
+    length-lent work n (let h = r .work in omega arith) ∙ en,
+  )
+
+  -- the number and the output follow from whether the key is consistent
+  pub sign-ended : signSizes set (length sk) (length msg) (length rnd) (length sig) (length work) ≡ 0 → (yes : Bool) (sigAfter workAfter : List ℕ)
+      → yes ≡ consistentKey p sk → sigAfter ≡ cond (consistentKey p sk) (over (signature p sk rnd msg) sig) sig → workAfter ≡ cleared work
+      → signEnded (cond yes 0 8) sigAfter workAfter ≡ signOutcome set sk msg rnd sig work
+  sign-ended r true sigAfter workAfter told e w =
+      let consistent = ap (λ (q : Params). consistentKey q sk) (sym param) ∙ sym told in
+      let written = e ∙ ap (λ (x : Bool). cond x (over (signature p sk rnd msg) sig) sig) (sym told) ∙ ap (λ (q : Params). over (signature q sk rnd msg) sig) param in
+      let ended : signEnded 0 sigAfter workAfter ≡ signEnded 0 (over (signature (paramsOf set) sk rnd msg) sig) (cleared work) = cc in
+      ended ∙ sign-done set sk msg rnd sig work r consistent
+  sign-ended r false sigAfter workAfter told e w =
+      let inconsistent = ap (λ (q : Params). consistentKey q sk) (sym param) ∙ sym told in
+      let kept = e ∙ ap (λ (x : Bool). cond x (over (signature p sk rnd msg) sig) sig) (sym told) in
+      let ended : signEnded 8 sigAfter workAfter ≡ signEnded 8 sig (cleared work) = cc in
+      ended ∙ sign-inconsistent set sk msg rnd sig work r inconsistent
+
+-- ---- verify
+
+module _ (set : ℕ) (p : Params) (param : p ≡ paramsOf set) (pk msg sig work : List ℕ) where
+  pub verify-asked : VerifyRight set (length pk) (length msg) (length sig) (length work) → (n : ℕ) → n ≡ workLength
+      → Fits p × (length pk ≡ publicKeyLength p) × (length sig ≡ signatureLength p) × (length (take (n - 0) work) ≡ workLength)
+  verify-asked r n en = (
+    known-fits set p param (r .known),
+    r .publicKey ∙ ap publicKeyLength (sym param),
+    r .signature ∙ ap signatureLength (sym param),
+    length-lent work n (let h = r .work in omega arith) ∙ en,
+  )
+
+  -- the number follows from whether the signature is accepted
+  pub verify-ended : verifySizes set (length pk) (length msg) (length sig) (length work) ≡ 0 → (yes : Bool) (workAfter : List ℕ)
+      → yes ≡ accepts p pk msg sig → workAfter ≡ cleared work → verifyEnded (cond yes 0 9) workAfter ≡ verifyOutcome set pk msg sig work
+  verify-ended r true workAfter told w =
+      let accepted = ap (λ (q : Params). accepts q pk msg sig) (sym param) ∙ sym told in
+      ap (verifyEnded 0) w ∙ verify-genuine set pk msg sig work r accepted
+  verify-ended r false workAfter told w =
+      let refused = ap (λ (q : Params). accepts q pk msg sig) (sym param) ∙ sym told in
+      ap (verifyEnded 9) w ∙ verify-not-accepted set pk msg sig work r refused

@@ -3,13 +3,16 @@
 ghost use mathlib.Core.Path.{_≡_};
 ghost use Prim.Native.Nat.{_≤_};
 ghost use lib.ListN.{length};
-ghost use Rattle.biscuit.specs.Desk.{workLength, cleared, makeKeysSizes, makeKeysEnded, makeKeysOutcome, publicHalfSizes, publicHalfEnded, publicHalfOutcome};
+ghost use Rattle.biscuit.specs.Desk.{workLength, cleared, makeKeysSizes, makeKeysEnded, makeKeysOutcome, publicHalfSizes, publicHalfEnded, publicHalfOutcome, signSizes, signEnded, signOutcome, verifySizes, verifyEnded, verifyOutcome};
 
 // Done.
 const DONE: u8 = 0;
 
 // The secret key is not consistent.
 const KEY_NOT_CONSISTENT: u8 = 8;
+
+// Verification doesn't accept.
+const NOT_ACCEPTED: u8 = 9;
 
 // Make keys: fills two outputs with the keys of two seeds.
 pub fn make_keys(
@@ -89,6 +92,105 @@ fn public_half_sized(set: usize, secret_key: &[u8], public_key: &mut [u8], work:
         return DONE;
     }
     KEY_NOT_CONSISTENT
+}
+
+// Sign: fills the output with the signature of the message by a consistent secret key.
+pub fn sign(
+    set: usize,
+    secret_key: &[u8],
+    message: &[u8],
+    random: &[u8],
+    signature: &mut [u8],
+    work: &mut [u8],
+) -> u8
+    ensures { λ r. ⌜ signEnded r (now (signature .exit)) (now (work .exit)) ≡ signOutcome set (now («secret_key» .entry)) (now (message .entry)) (now (random .entry)) (now (signature .entry)) (now (work .entry)) ⌝ }
+{
+    let refused = biscuit::sign_sizes(
+        set,
+        secret_key.len(),
+        message.len(),
+        random.len(),
+        signature.len(),
+        work.len(),
+    );
+    if refused != DONE {
+        return refused;
+    }
+    sign_sized(set, secret_key, message, random, signature, work)
+}
+
+// Sign where all sizes are right.
+fn sign_sized(
+    set: usize,
+    secret_key: &[u8],
+    message: &[u8],
+    random: &[u8],
+    signature: &mut [u8],
+    work: &mut [u8],
+) -> u8
+    requires { ⌜ signSizes set (length (now «secret_key»)) (length (now message)) (length (now random)) (length (now signature)) (length (now work)) ≡ 0 ⌝ }
+    ensures { λ r. ⌜ signEnded r (now (signature .exit)) (now (work .exit)) ≡ signOutcome set (now («secret_key» .entry)) (now (message .entry)) (now (random .entry)) (now (signature .entry)) (now (work .entry)) ⌝ }
+{
+    let p = sets::params_of(set);
+    let a = sets::signature_len(set);
+    let n = biscuit::work_len();
+    let signed = signing::sign(
+        p,
+        secret_key,
+        message,
+        random,
+        &mut signature[0..a],
+        &mut work[0..n],
+    );
+    clear_work(work);
+    if signed {
+        return DONE;
+    }
+    KEY_NOT_CONSISTENT
+}
+
+// Verify: 0 where the signature is accepted for the message under the public key.
+pub fn verify(
+    set: usize,
+    public_key: &[u8],
+    message: &[u8],
+    signature: &[u8],
+    work: &mut [u8],
+) -> u8
+    ensures { λ r. ⌜ verifyEnded r (now (work .exit)) ≡ verifyOutcome set (now («public_key» .entry)) (now (message .entry)) (now (signature .entry)) (now (work .entry)) ⌝ }
+{
+    let refused = biscuit::verify_sizes(
+        set,
+        public_key.len(),
+        message.len(),
+        signature.len(),
+        work.len(),
+    );
+    if refused != DONE {
+        return refused;
+    }
+    verify_sized(set, public_key, message, signature, work)
+}
+
+// Verify where all sizes are right.
+fn verify_sized(
+    set: usize,
+    public_key: &[u8],
+    message: &[u8],
+    signature: &[u8],
+    work: &mut [u8],
+) -> u8
+    requires { ⌜ verifySizes set (length (now «public_key»)) (length (now message)) (length (now signature)) (length (now work)) ≡ 0 ⌝ }
+    ensures { λ r. ⌜ verifyEnded r (now (work .exit)) ≡ verifyOutcome set (now («public_key» .entry)) (now (message .entry)) (now (signature .entry)) (now (work .entry)) ⌝ }
+{
+    let p = sets::params_of(set);
+    let n = biscuit::work_len();
+    let accepted = verifying::accepts(p, public_key, message, signature, &mut work[0..n]);
+    clear_work(work);
+    if accepted {
+        return DONE;
+    }
+    NOT_ACCEPTED
 }
 
 // Sets the bytes of work that a call uses to 0.

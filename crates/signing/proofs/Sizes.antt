@@ -1,0 +1,41 @@
+-- The places of a signature's sections are small, and they fit the signature. Assumes nothing.
+use mathlib.Core.Path.{_≡_, refl}
+use Prim.Native.Nat.{_+_, _*_, _/_, _≤_}
+use native.Mathlib.Nat.{mul-le-mul-right}
+use native.Mathlib.Omega.{arith}
+use Rattle.field.specs.Packing.{packedLength}
+use Rattle.sets.specs.Sets.{S, signatureLength}
+use Rattle.sets.specs.declared.Params.{Params}
+use Rattle.biscuit.specs.Room.{Fits}
+use Rattle.biscuit.specs.Signature.{headLength, shownLength, packingAt, vectorCount}
+
+module _ (P : Params) (f : Fits P) where
+  pub seed-small : P .bits / 8 ≤ 32
+  unfolding S
+  seed-small = f .seed
+
+  pub shown-small : P .l * (P .bits / 8) + 2 * (P .bits / 8) ≤ 320
+  shown-small = let a = mul-le-mul-right (P .bits / 8) (f .levels) in let b = seed-small in omega arith
+
+  pub body-small : P .tau * (P .l * (P .bits / 8) + 2 * (P .bits / 8)) ≤ 23360
+  body-small = let a = mul-le-mul-right (P .l * (P .bits / 8) + 2 * (P .bits / 8)) (f .repetitions) in let b = shown-small in omega arith
+
+-- the sections of a signature, as they follow each other
+pub record Sections (P : Params) : Type 0 where
+  pub head : headLength P ≡ 2 * S P + 2 * S P + 2 * S P
+  pub body : packingAt P ≡ headLength P + P .tau * (P .l * S P + 2 * S P)
+  pub whole : signatureLength P ≡ packingAt P + packedLength (vectorCount P)
+
+pub sections : (P : Params) → Sections P
+unfolding headLength shownLength packingAt vectorCount signatureLength
+sections P = record { head = refl; body = refl; whole = refl }
+
+-- the first place as the code has it
+pub head-at : (P : Params) → 2 * (P .bits / 8) + 2 * (P .bits / 8) + 2 * (P .bits / 8) ≡ headLength P
+unfolding headLength S
+head-at P = refl
+
+-- the bytes of salt and of each hash as the code has them
+pub two-seeds : (P : Params) → P .bits / 8 * 2 ≡ 2 * S P
+unfolding S
+two-seeds P = omega arith

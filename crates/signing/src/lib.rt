@@ -1,0 +1,320 @@
+// Signing, algorithm 12 of the submission: salt and roots are drawn, the two passes over all repetitions give the hashes, and each section of the signature is written
+// through the part lent for it. No secret picks a branch or an address but in the table of products.
+mod steps;
+
+use sets::Params;
+use sponge::Sponge;
+ghost use mathlib.Core.Path.{_≡_};
+ghost use mathlib.Core.Bool.{cond};
+ghost use mathlib.Core.List.{List, _++_};
+ghost use Prim.Native.Nat.{ℕ, _+_, _*_, _≤_};
+ghost use lib.ListN.{length, take, drop};
+ghost use Rattle.memory.specs.Lists.{put};
+ghost use Rattle.field.specs.Packing.{Elements, pack, packedLength};
+ghost use Rattle.sets.specs.Sets.{S, secretKeyLength, signatureLength};
+ghost use Rattle.forms.specs.Room.{HoldsCircuit};
+ghost use Rattle.biscuit.specs.Desk.{workLength};
+ghost use Rattle.biscuit.specs.Keys.{consistentKey};
+ghost use Rattle.biscuit.specs.Room.{Fits, leavesAt};
+ghost use Rattle.biscuit.specs.Signature.{repeated, shown, vectors, vectorCount, headLength, packingAt, written};
+ghost use Rattle.biscuit.specs.Sign.{Signer, f, h₁, signed, signerOf, drawn, sign};
+ghost use Rattle.passes.specs.Passes.{HoldsSecret, HoldsCorrections};
+ghost use Rattle.replies.specs.Replies.{HoldsHidden};
+ghost use Rattle.signing.specs.Signing.{HoldsSigner, HoldsChallenges, Hashed};
+
+// The bytes of the longest salt, of the longest hash, and the most repetitions.
+const SALT: usize = 64;
+
+const HASH: usize = 64;
+
+const REPETITIONS: usize = 73;
+
+// The elements of the longest secret key: s, t and y.
+const SECRET: usize = 360;
+
+// The signature of the message by the secret key, where that is consistent; otherwise nothing is written.
+pub fn sign(
+    p: Params,
+    sk: &[u8],
+    message: &[u8],
+    random: &[u8],
+    signature: &mut [u8],
+    work: &mut [u8],
+) -> bool
+    requires { ⌜ (Fits p) × (length (now sk) ≡ secretKeyLength p) × (length (now signature) ≡ signatureLength p) × (length (now work) ≡ workLength) ⌝ }
+    ensures { λ r. ⌜ (r ≡ consistentKey p (now (sk .entry))) × (now (signature .exit) ≡ cond (consistentKey p (now (sk .entry))) (written p (sign p (now (sk .entry)) (now (random .entry)) (now (message .entry)))) (now (signature .entry))) ⌝ }
+{
+    let n = p.n + p.m + p.m;
+    let mut secret = [0u8; SECRET];
+    sign_in(p, sk, message, random, &mut secret[0..n], signature, work)
+}
+
+// The same, with room for the elements of the secret key, which is cleared again.
+fn sign_in(
+    p: Params,
+    sk: &[u8],
+    message: &[u8],
+    random: &[u8],
+    secret: &mut [u8],
+    signature: &mut [u8],
+    work: &mut [u8],
+) -> bool
+    requires { ⌜ (Fits p) × (length (now sk) ≡ secretKeyLength p) × (length (now secret) ≡ p .n + p .m + p .m) × (length (now signature) ≡ signatureLength p) × (length (now work) ≡ workLength) ⌝ }
+    ensures { λ r. ⌜ (r ≡ consistentKey p (now (sk .entry))) × (now (signature .exit) ≡ cond (consistentKey p (now (sk .entry))) (written p (sign p (now (sk .entry)) (now (random .entry)) (now (message .entry)))) (now (signature .entry))) ⌝ }
+{
+    let signed = sign_with(p, sk, message, random, secret, signature, work);
+    memory::clear(secret);
+    signed
+}
+
+// The same, and the room keeps the elements.
+fn sign_with(
+    p: Params,
+    sk: &[u8],
+    message: &[u8],
+    random: &[u8],
+    secret: &mut [u8],
+    signature: &mut [u8],
+    work: &mut [u8],
+) -> bool
+    requires { ⌜ (Fits p) × (length (now sk) ≡ secretKeyLength p) × (length (now secret) ≡ p .n + p .m + p .m) × (length (now signature) ≡ signatureLength p) × (length (now work) ≡ workLength) ⌝ }
+    ensures { λ r. ⌜ (r ≡ consistentKey p (now (sk .entry))) × (now (signature .exit) ≡ cond (consistentKey p (now (sk .entry))) (written p (sign p (now (sk .entry)) (now (random .entry)) (now (message .entry)))) (now (signature .entry))) ⌝ }
+{
+    let e = forms::circuit_len(p.n, p.m);
+    let consistent = keys::consistent(p, sk, secret, &mut work[0..e]);
+    if consistent {
+        write(p, sk, message, random, secret, signature, work);
+        return true;
+    }
+    false
+}
+
+// The signature of a signer whose key is consistent, with the circuit in work.
+fn write(
+    p: Params,
+    sk: &[u8],
+    message: &[u8],
+    random: &[u8],
+    secret: &[u8],
+    signature: &mut [u8],
+    work: &mut [u8],
+)
+    requires { ⌜ (Fits p) × (length (now secret) ≡ p .n + p .m + p .m) × (Elements (now secret)) × (length (now signature) ≡ signatureLength p) × (length (now work) ≡ workLength) ⌝ }
+    ensures { λ r. ⌜ (let signer = signerOf p (now (sk .entry)) (now (random .entry)) (now (message .entry)) in HoldsSecret p signer (signer .salt) (now (secret .entry)) → HoldsCircuit (p .n) (p .m) (f p signer) (take (leavesAt p) (now (work .entry))) → now (signature .exit) ≡ written p (signed p signer (now (message .entry)))) ⌝ }
+{
+    let n = p.bits / 8 * 2;
+    let mut salt = [0u8; SALT];
+    write_salted(
+        p,
+        sk,
+        message,
+        random,
+        secret,
+        &mut salt[0..n],
+        signature,
+        work,
+    );
+}
+
+// The same, with room for the salt.
+fn write_salted(
+    p: Params,
+    sk: &[u8],
+    message: &[u8],
+    random: &[u8],
+    secret: &[u8],
+    salt: &mut [u8],
+    signature: &mut [u8],
+    work: &mut [u8],
+)
+    requires { ⌜ (Fits p) × (length (now secret) ≡ p .n + p .m + p .m) × (Elements (now secret)) × (length (now salt) ≡ 2 * S p) × (length (now signature) ≡ signatureLength p) × (length (now work) ≡ workLength) ⌝ }
+    ensures { λ r. ⌜ (let signer = signerOf p (now (sk .entry)) (now (random .entry)) (now (message .entry)) in HoldsSecret p signer (signer .salt) (now (secret .entry)) → HoldsCircuit (p .n) (p .m) (f p signer) (take (leavesAt p) (now (work .entry))) → now (signature .exit) ≡ written p (signed p signer (now (message .entry)))) ⌝ }
+{
+    let map = biscuit::layout_of(p);
+    let a = map.roots;
+    let b = map.challenges;
+    draw(p, sk, message, random, salt, &mut work[a..b]);
+    write_drawn(p, message, secret, salt, signature, work);
+}
+
+// Algorithm 12, line 5: salt and roots from the random bytes, the secret key's bytes as given and the message.
+fn draw(p: Params, sk: &[u8], message: &[u8], random: &[u8], salt: &mut [u8], roots: &mut [u8])
+    requires { ⌜ (length (now salt) ≡ 2 * S p) × (length (now roots) ≡ p .tau * S p) ⌝ }
+    ensures { λ r. ⌜ (now (salt .exit) ≡ signerOf p (now (sk .entry)) (now (random .entry)) (now (message .entry)) .salt) × (now (roots .exit) ≡ drop (2 * S p) (drawn p (now (sk .entry)) (now (random .entry)) (now (message .entry)))) ⌝ }
+{
+    let start = Sponge::new().absorb(random).absorb(sk);
+    let tape = start.absorb(message).finish();
+    let rest = tape.squeeze(salt);
+    rest.squeeze(roots);
+}
+
+// The signature from salt and roots.
+fn write_drawn(
+    p: Params,
+    message: &[u8],
+    secret: &[u8],
+    salt: &[u8],
+    signature: &mut [u8],
+    work: &mut [u8],
+)
+    requires { ⌜ (Fits p) × (length (now secret) ≡ p .n + p .m + p .m) × (Elements (now secret)) × (length (now salt) ≡ 2 * S p) × (length (now signature) ≡ signatureLength p) × (length (now work) ≡ workLength) ⌝ }
+    ensures { λ r. ⌜ ((signer : Signer) → HoldsSigner p signer (now (salt .entry)) (now (secret .entry)) (now (work .entry)) → now (signature .exit) ≡ written p (signed p signer (now (message .entry)))) ⌝ }
+{
+    let n = p.bits / 8 * 2;
+    let mut h1 = [0u8; HASH];
+    let mut h2 = [0u8; HASH];
+    write_hashed(
+        p,
+        message,
+        secret,
+        salt,
+        &mut h1[0..n],
+        &mut h2[0..n],
+        signature,
+        work,
+    );
+}
+
+// The same, with room for the two hashes.
+fn write_hashed(
+    p: Params,
+    message: &[u8],
+    secret: &[u8],
+    salt: &[u8],
+    h1: &mut [u8],
+    h2: &mut [u8],
+    signature: &mut [u8],
+    work: &mut [u8],
+)
+    requires { ⌜ (Fits p) × (length (now secret) ≡ p .n + p .m + p .m) × (Elements (now secret)) × (length (now salt) ≡ 2 * S p) × (length (now h1) ≡ 2 * S p) × (length (now h2) ≡ 2 * S p) × (length (now signature) ≡ signatureLength p) × (length (now work) ≡ workLength) ⌝ }
+    ensures { λ r. ⌜ ((signer : Signer) → HoldsSigner p signer (now (salt .entry)) (now (secret .entry)) (now (work .entry)) → now (signature .exit) ≡ written p (signed p signer (now (message .entry)))) ⌝ }
+{
+    let a = packing_at(p);
+    let e = signature.len();
+    commit(p, message, secret, salt, h1, h2, &mut signature[a..e], work);
+    open(p, secret, salt, h1, h2, signature, work);
+}
+
+// Where the packing of a signature begins.
+fn packing_at(p: Params) -> usize
+    requires { ⌜ Fits p ⌝ }
+    ensures { λ r. ⌜ r ≡ packingAt p ⌝ }
+{
+    let s = p.bits / 8;
+    2 * s + 2 * s + 2 * s + p.tau * (p.l * s + 2 * s)
+}
+
+// Phases 1 to 4: both hashes, and the corrections in the packing.
+fn commit(
+    p: Params,
+    message: &[u8],
+    secret: &[u8],
+    salt: &[u8],
+    h1: &mut [u8],
+    h2: &mut [u8],
+    packing: &mut [u8],
+    work: &mut [u8],
+)
+    requires { ⌜ (Fits p) × (length (now secret) ≡ p .n + p .m + p .m) × (Elements (now secret)) × (length (now salt) ≡ 2 * S p) × (length (now h1) ≡ 2 * S p) × (length (now h2) ≡ 2 * S p) × (length (now packing) ≡ packedLength (vectorCount p)) × (length (now work) ≡ workLength) ⌝ }
+    ensures { λ r. ⌜ ((signer : Signer) → HoldsSigner p signer (now (salt .entry)) (now (secret .entry)) (now (work .entry)) → Hashed p signer (now (message .entry)) (now (salt .entry)) (now (secret .entry)) (now (h1 .exit)) (now (h2 .exit)) (now (packing .exit)) (now (work .exit))) ⌝ }
+{
+    let start = hashes::first(salt).absorb(message);
+    let full = passes::commit_pass(start, p, salt, secret, packing, work);
+    full.finish().squeeze(h1);
+    answer(p, secret, salt, h1, h2, packing, work);
+}
+
+// Phases 2 to 4: the challenges from the first hash, and the second.
+fn answer(
+    p: Params,
+    secret: &[u8],
+    salt: &[u8],
+    h1: &[u8],
+    h2: &mut [u8],
+    packing: &[u8],
+    work: &mut [u8],
+)
+    requires { ⌜ (Fits p) × (length (now secret) ≡ p .n + p .m + p .m) × (Elements (now secret)) × (length (now salt) ≡ 2 * S p) × (length (now h2) ≡ 2 * S p) × (length (now packing) ≡ packedLength (vectorCount p)) × (length (now work) ≡ workLength) ⌝ }
+    ensures { λ r. ⌜ ((signer : Signer) (msg : List ℕ) → HoldsSigner p signer (now (salt .entry)) (now (secret .entry)) (now (work .entry)) → now (h1 .entry) ≡ h₁ p signer msg → HoldsCorrections p signer (p .tau) (now (packing .entry)) → Hashed p signer msg (now (salt .entry)) (now (secret .entry)) (now (h1 .entry)) (now (h2 .exit)) (now (packing .entry)) (now (work .exit))) ⌝ }
+{
+    let map = biscuit::layout_of(p);
+    let a = map.challenges;
+    let e = map.end;
+    forms::tape_bytes(h1, &mut work[a..e]);
+    let start = hashes::second(salt, h1);
+    let full = steps::answer_pass(start, p, salt, secret, packing, work);
+    full.finish().squeeze(h2);
+}
+
+// Phase 5: every section of the signature in its place.
+fn open(
+    p: Params,
+    secret: &[u8],
+    salt: &[u8],
+    h1: &[u8],
+    h2: &[u8],
+    signature: &mut [u8],
+    work: &mut [u8],
+)
+    requires { ⌜ (Fits p) × (length (now secret) ≡ p .n + p .m + p .m) × (Elements (now secret)) × (length (now salt) ≡ 2 * S p) × (length (now h1) ≡ 2 * S p) × (length (now h2) ≡ 2 * S p) × (length (now signature) ≡ signatureLength p) × (length (now work) ≡ workLength) ⌝ }
+    ensures { λ r. ⌜ ((signer : Signer) (msg : List ℕ) → Hashed p signer msg (now (salt .entry)) (now (secret .entry)) (now (h1 .entry)) (now (h2 .entry)) (drop (packingAt p) (now (signature .entry))) (now (work .entry)) → now (signature .exit) ≡ written p (signed p signer msg)) ⌝ }
+{
+    let n = p.tau;
+    let mut hidden = [0u8; REPETITIONS];
+    open_with(p, secret, salt, h1, h2, &mut hidden[0..n], signature, work);
+}
+
+// The same, with room for the hidden parties' bytes.
+fn open_with(
+    p: Params,
+    secret: &[u8],
+    salt: &[u8],
+    h1: &[u8],
+    h2: &[u8],
+    hidden: &mut [u8],
+    signature: &mut [u8],
+    work: &mut [u8],
+)
+    requires { ⌜ (Fits p) × (length (now secret) ≡ p .n + p .m + p .m) × (Elements (now secret)) × (length (now salt) ≡ 2 * S p) × (length (now h1) ≡ 2 * S p) × (length (now h2) ≡ 2 * S p) × (length (now hidden) ≡ p .tau) × (length (now signature) ≡ signatureLength p) × (length (now work) ≡ workLength) ⌝ }
+    ensures { λ r. ⌜ ((signer : Signer) (msg : List ℕ) → Hashed p signer msg (now (salt .entry)) (now (secret .entry)) (now (h1 .entry)) (now (h2 .entry)) (drop (packingAt p) (now (signature .entry))) (now (work .entry)) → now (signature .exit) ≡ written p (signed p signer msg)) ⌝ }
+{
+    forms::tape_bytes(h2, hidden);
+    write_head(salt, h1, h2, signature);
+    open_hidden(p, secret, salt, hidden, signature, work);
+}
+
+// Salt and both hashes, one behind the other.
+fn write_head(salt: &[u8], h1: &[u8], h2: &[u8], signature: &mut [u8])
+    requires { ⌜ (length (now salt) ≤ 64) × (length (now h1) ≤ 64) × (length (now h2) ≤ 64) × (length (now salt) + length (now h1) + length (now h2) ≤ length (now signature)) ⌝ }
+    ensures { λ r. ⌜ now (signature .exit) ≡ put (now (signature .entry)) 0 (now (salt .entry) ++ (now (h1 .entry) ++ now (h2 .entry))) ⌝ }
+{
+    let a = salt.len();
+    let b = a + h1.len();
+    let c = b + h2.len();
+    memory::copy(salt, &mut signature[0..a]);
+    memory::copy(h1, &mut signature[a..b]);
+    memory::copy(h2, &mut signature[b..c]);
+}
+
+// What is shown of each repetition, and then the hidden α, with the hidden parties' bytes.
+fn open_hidden(
+    p: Params,
+    secret: &[u8],
+    salt: &[u8],
+    hidden: &[u8],
+    signature: &mut [u8],
+    work: &mut [u8],
+)
+    requires { ⌜ (Fits p) × (length (now secret) ≡ p .n + p .m + p .m) × (Elements (now secret)) × (length (now salt) ≡ 2 * S p) × (length (now hidden) ≡ p .tau) × (length (now signature) ≡ signatureLength p) × (length (now work) ≡ workLength) ⌝ }
+    ensures { λ r. ⌜ ((signer : Signer) (msg : List ℕ) → HoldsSigner p signer (now (salt .entry)) (now (secret .entry)) (now (work .entry)) → HoldsChallenges p signer msg (now (work .entry)) → HoldsHidden p signer msg (now (hidden .entry)) → HoldsCorrections p signer (p .tau) (drop (packingAt p) (now (signature .entry))) → now (signature .exit) ≡ take (headLength p) (now (signature .entry)) ++ (repeated (p .tau) (λ e. shown (signed p signer msg .opening e)) ++ pack (vectors p (signed p signer msg)))) ⌝ }
+{
+    let map = biscuit::layout_of(p);
+    let s = p.bits / 8;
+    let a = 2 * s + 2 * s + 2 * s;
+    let b = packing_at(p);
+    let e = signature.len();
+    let c = map.roots;
+    let d = map.challenges;
+    opening::show_all(p, salt, hidden, &mut work[c..d], &mut signature[a..b]);
+    steps::alpha_pass(p, salt, secret, hidden, &mut signature[b..e], work);
+}
