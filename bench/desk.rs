@@ -29,16 +29,23 @@ const SETS: [(usize, usize, usize, usize, usize, usize, usize, usize); 6] = [
 ];
 const RATE: usize = 136;
 const MESSAGE: usize = 100;
-const ROUNDS: usize = 7;
+const ROUNDS: usize = 15;
+const BLOCKS: usize = 2000;
 
-fn least(mut run: impl FnMut()) -> f64 {
-    let mut best = Duration::MAX;
+// A call and one permutation, turn about, so that both meet the same machine: the least time of each.
+fn least(mut run: impl FnMut()) -> (f64, f64) {
+    let mut out = vec![0u8; RATE * BLOCKS];
+    let seed = [7u8; 32];
+    let (mut best, mut one) = (Duration::MAX, Duration::MAX);
     for _ in 0..ROUNDS {
+        let start = Instant::now();
+        unsafe { biscuit_shake256(seed.as_ptr(), seed.len(), out.as_mut_ptr(), out.len()) };
+        one = one.min(start.elapsed());
         let start = Instant::now();
         run();
         best = best.min(start.elapsed());
     }
-    best.as_nanos() as f64
+    (best.as_nanos() as f64, one.as_nanos() as f64 / BLOCKS as f64)
 }
 
 // The permutations of one hash of `taken` bytes that gives `given` bytes.
@@ -79,16 +86,13 @@ fn verifying(s: usize, n: usize, m: usize, tau: usize, l: usize) -> usize {
 }
 
 fn main() {
-    let mut long = vec![0u8; RATE * 4000];
+    println!("set  call    permutations   time          one permutation   over permutations × one");
     let seed = [7u8; 32];
-    let one = least(|| unsafe { biscuit_shake256(seed.as_ptr(), seed.len(), long.as_mut_ptr(), long.len()) }) / 4000.0;
-    println!("one permutation: {one:.0} ns");
-    println!("set  call    permutations   time          over permutations × one");
     let message = [5u8; MESSAGE];
     for (i, &(s, n, m, tau, l, sk_len, pk_len, sig_len)) in SETS.iter().enumerate() {
         let set = i + 1;
         let (mut sk, mut pk, mut sig, mut work) = (vec![0u8; sk_len], vec![0u8; pk_len], vec![0u8; sig_len], vec![0u8; 65_536]);
-        let line = |call: &str, count: usize, time: f64| println!("{set}    {call:6}  {count:12}   {:9.3} ms  {:.2}", time / 1e6, time / (count as f64 * one));
+        let line = |call: &str, count: usize, (time, one): (f64, f64)| println!("{set}    {call:6}  {count:12}   {:9.3} ms  {one:9.0} ns      {:.2}", time / 1e6, time / (count as f64 * one));
         let time = least(|| unsafe {
             let r = biscuit_make_keys(
                 set, seed.as_ptr(), s, message.as_ptr(), s, sk.as_mut_ptr(), sk_len, pk.as_mut_ptr(), pk_len, work.as_mut_ptr(), work.len(),
