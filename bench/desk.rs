@@ -76,7 +76,7 @@ fn signing(s: usize, n: usize, m: usize, tau: usize, l: usize, sk: usize) -> usi
     common(s, n, m, tau, l) + hash(sk + MESSAGE, (2 + tau) * s) + tau * (repetition + l * child + com + tape)
 }
 
-// Verifying: each tree and each tape once, without the hidden party.
+// Verifying: each tree once without the way to the hidden party, each tape once (the hidden party's from zeros), each commitment once without the hidden party's.
 fn verifying(s: usize, n: usize, m: usize, tau: usize, l: usize) -> usize {
     let parties = 1 << l;
     let child = hash(7 + 3 * s, 2 * s);

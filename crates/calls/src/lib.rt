@@ -1,5 +1,5 @@
 // The calls of the signing desk (document 01, "What the desk says"). Each takes any arguments: sizes are tested first, and a refusal changes nothing. What a call promises,
-// its number and every byte that it was lent, is one equation. Which number comes back is public; no other secret chooses a branch here.
+// its number and every byte that it was lent, is one equation. Which number comes back is told to the caller; nothing else that is secret chooses a branch here.
 ghost use mathlib.Core.Path.{_≡_};
 ghost use Prim.Native.Nat.{_≤_};
 ghost use lib.ListN.{length};
