@@ -7,7 +7,6 @@ pub mod OneOutcome
 pub mod Outcomes
 pub mod Places
 pub mod ReadBack
-pub mod Refusals
 pub mod Repeated
 pub mod Room
 pub mod SignSized

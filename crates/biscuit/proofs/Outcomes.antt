@@ -1,52 +1,22 @@
 -- Each ending of each call, whole: what the outcome is where sizes refuse, where the key is not consistent or the signature not accepted, and where the call is done.
 -- Assumes nothing.
-use mathlib.Core.Path.{_≡_, sym, ap, ap₂, _∙_}
-use mathlib.Core.Bool.{Bool, true, false, _&&_, cond}
-use mathlib.Core.List.{List, _++_}
-use Prim.Native.Nat.{ℕ, _≤_}
+use mathlib.Core.Path.{_≡_, sym, ap, _∙_}
+use mathlib.Core.Bool.{Bool, true, false, cond}
+use mathlib.Core.List.{List}
+use Prim.Native.Nat.{ℕ}
 use native.Mathlib.Omega.{arith}
-use lib.ListN.{length, take, drop, replicate, length-append, length-replicate, length-drop}
-use lib.Seq.{take-at, drop-at, length-take-le}
-use borrow.Author.Tests.{le-leb, ne-eqb}
+use lib.ListN.{length}
 use Rattle.memory.specs.Lists.{over}
 use Rattle.sets.specs.Sets.{paramsOf}
 use Rattle.biscuit.specs.Keys.{secretKey, publicKey, consistentKey, publicHalf}
 use Rattle.biscuit.specs.Sign.{signature}
 use Rattle.biscuit.specs.Verify.{accepts}
-use Rattle.biscuit.specs.Desk.{workLength, makeKeysSizes, publicHalfSizes, signSizes, verifySizes, keyNumber, acceptNumber, cleared, workAfter, outputAfter, MakeKeysOutcome, makeKeysEnded, makeKeysNumber, makeKeysOutcome, PublicHalfOutcome, publicHalfEnded, publicHalfNumber, publicHalfOutcome, SignOutcome, signEnded, signNumber, signOutcome, VerifyOutcome, verifyEnded, verifyNumber, verifyOutcome}
-use Rattle.biscuit.proofs.Refusals.{make-keys-at-most, public-half-at-most, sign-at-most, verify-at-most, orElse-right, orElse-refused}
+use Rattle.refusals.specs.Refusals.{makeKeysSizes, publicHalfSizes, signSizes, verifySizes, cleared, workAfter, outputAfter}
+use Rattle.biscuit.specs.Desk.{keyNumber, acceptNumber, MakeKeysOutcome, makeKeysEnded, makeKeysNumber, makeKeysOutcome, PublicHalfOutcome, publicHalfEnded, publicHalfNumber, publicHalfOutcome, SignOutcome, signEnded, signNumber, signOutcome, VerifyOutcome, verifyEnded, verifyNumber, verifyOutcome}
+use Rattle.refusals.proofs.Lent.{workAfter-refused, outputAfter-refused}
+use Rattle.refusals.proofs.Refusals.{make-keys-at-most, public-half-at-most, sign-at-most, verify-at-most, orElse-right, orElse-refused}
 
--- ---- lent bytes
-
--- clearing n bytes is clearing the work, for whoever keeps the number a variable
-pub cleared-first : (n : ℕ) (work : List ℕ) → n ≡ workLength → replicate n 0 ++ drop n work ≡ cleared work
-unfolding cleared
-cleared-first n work e = ap (λ (k : ℕ). replicate k 0 ++ drop k work) e
-
-pub length-cleared : (work : List ℕ) → workLength ≤ length work → length (cleared work) ≡ length work
-unfolding cleared
-length-cleared work h =
-    let zeros = length-replicate {A = ℕ} workLength 0 in
-    let rest = length-drop workLength work in
-    length-append (replicate workLength 0) (drop workLength work) ∙ omega arith
-
--- work whose first n bytes were lent and came back holding u, and which were then cleared
-pub cleared-again : (n : ℕ) (work u v : List ℕ) → n ≡ workLength → n ≤ length work → length u ≡ length (take n work)
-    → v ≡ replicate (length (take n (u ++ drop n work))) 0 → v ++ drop n (u ++ drop n work) ≡ cleared work
-cleared-again n work u v e h l f =
-    let size = l ∙ length-take-le n work h in
-    ap₂ (λ (a b : List ℕ). a ++ b)
-    (f ∙ ap (λ (k : ℕ). replicate k 0) (ap length (take-at u (drop n work) n size) ∙ size))
-    (drop-at u (drop n work) n size)
-    ∙ cleared-first n work e
-
-pub workAfter-refused : (number : ℕ) (work : List ℕ) → 1 ≤ number → number ≤ 7 → workAfter number work ≡ work
-unfolding workAfter
-workAfter-refused number work a b = ap₂ (λ (x y : Bool). cond (x && y) work (cleared work)) (le-leb 1 number a) (le-leb number 7 b)
-
-pub outputAfter-refused : (number : ℕ) (result output : List ℕ) → (number ≡ 0 → ⊥) → outputAfter number result output ≡ output
-unfolding outputAfter
-outputAfter-refused number result output n = ap (λ (b : Bool). cond b (over result output) output) (ne-eqb number 0 n)
+-- ---- numbers
 
 -- the number where the sizes are right
 pub keyNumber-consistent : (set : ℕ) (sk : List ℕ) → consistentKey (paramsOf set) sk ≡ true → keyNumber set sk ≡ 0

@@ -13,10 +13,11 @@ use Rattle.memory.proofs.Parts.{over-fits}
 use Rattle.sets.specs.Sets.{paramsOf, secretKeyLength, publicKeyLength, signatureLength}
 use Rattle.biscuit.specs.Keys.{secretKey, publicKey, consistentKey, publicHalf}
 use Rattle.biscuit.specs.Sign.{signature}
-use Rattle.biscuit.specs.Desk.{workLength, publicHalfSizes, signSizes, orElse, keyNumber, MakeKeysOutcome, makeKeysNumber, makeKeysOutcome, PublicHalfOutcome, publicHalfNumber, publicHalfOutcome, SignOutcome, signNumber, signOutcome, VerifyOutcome, verifyOutcome}
+use Rattle.refusals.specs.Refusals.{workLength, publicHalfSizes, signSizes, orElse}
+use Rattle.biscuit.specs.Desk.{keyNumber, MakeKeysOutcome, makeKeysNumber, makeKeysOutcome, PublicHalfOutcome, publicHalfNumber, publicHalfOutcome, SignOutcome, signNumber, signOutcome, VerifyOutcome, verifyOutcome}
 use Rattle.biscuit.proofs.Keys.{length-secretKey, length-publicKey, length-publicHalf, made-key-consistent, public-half-of-made}
 use Rattle.biscuit.proofs.Genuine.{length-signature, genuine-in-every-set}
-use Rattle.biscuit.proofs.Refusals.{SignRight, make-keys-right, public-half-right, sign-right, right-verify, orElse-right, orElse-refused}
+use Rattle.refusals.proofs.Refusals.{SignRight, make-keys-right, public-half-right, sign-right, right-verify, orElse-right, orElse-refused}
 use Rattle.biscuit.proofs.Outcomes.{make-keys-done, public-half-done, sign-done, verify-genuine}
 
 -- an output that holds the result first

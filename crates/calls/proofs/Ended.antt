@@ -9,13 +9,14 @@ use lib.ListN.{length, take}
 use Rattle.memory.specs.Lists.{over}
 use Rattle.sets.specs.Sets.{S, paramsOf, secretKeyLength, publicKeyLength, signatureLength}
 use Rattle.sets.specs.declared.Params.{Params}
-use Rattle.biscuit.specs.Desk.{workLength, cleared, makeKeysSizes, makeKeysEnded, makeKeysOutcome, publicHalfSizes, publicHalfEnded, publicHalfOutcome, signSizes, signEnded, signOutcome, verifySizes, verifyEnded, verifyOutcome}
+use Rattle.refusals.specs.Refusals.{workLength, cleared, makeKeysSizes, publicHalfSizes, signSizes, verifySizes}
+use Rattle.biscuit.specs.Desk.{makeKeysEnded, makeKeysOutcome, publicHalfEnded, publicHalfOutcome, signEnded, signOutcome, verifyEnded, verifyOutcome}
 use Rattle.biscuit.specs.Keys.{secretKey, publicKey, consistentKey, publicHalf}
 use Rattle.biscuit.specs.Sign.{signature}
 use Rattle.biscuit.specs.Verify.{accepts}
 use Rattle.biscuit.specs.Room.{Fits}
 use Rattle.biscuit.proofs.Outcomes.{make-keys-done, public-half-done, public-half-inconsistent, sign-done, sign-inconsistent, verify-genuine, verify-not-accepted}
-use Rattle.biscuit.proofs.Refusals.{MakeKeysRight, PublicHalfRight, SignRight, VerifyRight}
+use Rattle.refusals.proofs.Refusals.{MakeKeysRight, PublicHalfRight, SignRight, VerifyRight}
 use Rattle.calls.proofs.Lending.{known-fits, length-lent}
 
 -- ---- make keys

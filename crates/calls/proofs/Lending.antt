@@ -12,9 +12,9 @@ use Rattle.memory.specs.Lists.{over}
 use Rattle.memory.proofs.Parts.{over-fits}
 use Rattle.sets.specs.Sets.{paramsOf}
 use Rattle.sets.specs.declared.Params.{Params}
-use Rattle.biscuit.specs.Desk.{workLength, cleared}
+use Rattle.refusals.specs.Refusals.{workLength, cleared}
 use Rattle.biscuit.specs.Room.{Fits}
-use Rattle.biscuit.proofs.Refusals.{KnownSet}
+use Rattle.refusals.proofs.Refusals.{KnownSet}
 use Rattle.biscuit.proofs.Room.{fits}
 
 -- ---- a set's parameters

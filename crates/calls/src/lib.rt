@@ -3,7 +3,8 @@
 ghost use mathlib.Core.Path.{_≡_};
 ghost use Prim.Native.Nat.{_≤_};
 ghost use lib.ListN.{length};
-ghost use Rattle.biscuit.specs.Desk.{workLength, cleared, makeKeysSizes, makeKeysEnded, makeKeysOutcome, publicHalfSizes, publicHalfEnded, publicHalfOutcome, signSizes, signEnded, signOutcome, verifySizes, verifyEnded, verifyOutcome};
+ghost use Rattle.refusals.specs.Refusals.{workLength, cleared, makeKeysSizes, publicHalfSizes, signSizes, verifySizes};
+ghost use Rattle.biscuit.specs.Desk.{makeKeysEnded, makeKeysOutcome, publicHalfEnded, publicHalfOutcome, signEnded, signOutcome, verifyEnded, verifyOutcome};
 
 // Done.
 const DONE: u8 = 0;
@@ -25,7 +26,7 @@ pub fn make_keys(
 ) -> u8
     ensures { λ r. ⌜ makeKeysEnded r (now («secret_key» .exit)) (now («public_key» .exit)) (now (work .exit)) ≡ makeKeysOutcome set (now («circuit_seed» .entry)) (now («secret_seed» .entry)) (now («secret_key» .entry)) (now («public_key» .entry)) (now (work .entry)) ⌝ }
 {
-    let refused = biscuit::make_keys_sizes(
+    let refused = refusals::make_keys_sizes(
         set,
         circuit_seed.len(),
         secret_seed.len(),
@@ -54,7 +55,7 @@ fn make_keys_sized(
     let p = sets::params_of(set);
     let a = sets::secret_key_len(set);
     let b = sets::public_key_len(set);
-    let n = biscuit::work_len();
+    let n = refusals::work_len();
     keys::make_keys(
         p,
         circuit_seed,
@@ -71,7 +72,7 @@ fn make_keys_sized(
 pub fn public_half(set: usize, secret_key: &[u8], public_key: &mut [u8], work: &mut [u8]) -> u8
     ensures { λ r. ⌜ publicHalfEnded r (now («public_key» .exit)) (now (work .exit)) ≡ publicHalfOutcome set (now («secret_key» .entry)) (now («public_key» .entry)) (now (work .entry)) ⌝ }
 {
-    let refused = biscuit::public_half_sizes(set, secret_key.len(), public_key.len(), work.len());
+    let refused = refusals::public_half_sizes(set, secret_key.len(), public_key.len(), work.len());
     if refused != DONE {
         return refused;
     }
@@ -85,7 +86,7 @@ fn public_half_sized(set: usize, secret_key: &[u8], public_key: &mut [u8], work:
 {
     let p = sets::params_of(set);
     let b = sets::public_key_len(set);
-    let n = biscuit::work_len();
+    let n = refusals::work_len();
     let consistent = keys::public_half(p, secret_key, &mut public_key[0..b], &mut work[0..n]);
     clear_work(work);
     if consistent {
@@ -105,7 +106,7 @@ pub fn sign(
 ) -> u8
     ensures { λ r. ⌜ signEnded r (now (signature .exit)) (now (work .exit)) ≡ signOutcome set (now («secret_key» .entry)) (now (message .entry)) (now (random .entry)) (now (signature .entry)) (now (work .entry)) ⌝ }
 {
-    let refused = biscuit::sign_sizes(
+    let refused = refusals::sign_sizes(
         set,
         secret_key.len(),
         message.len(),
@@ -133,7 +134,7 @@ fn sign_sized(
 {
     let p = sets::params_of(set);
     let a = sets::signature_len(set);
-    let n = biscuit::work_len();
+    let n = refusals::work_len();
     let signed = signing::sign(
         p,
         secret_key,
@@ -159,7 +160,7 @@ pub fn verify(
 ) -> u8
     ensures { λ r. ⌜ verifyEnded r (now (work .exit)) ≡ verifyOutcome set (now («public_key» .entry)) (now (message .entry)) (now (signature .entry)) (now (work .entry)) ⌝ }
 {
-    let refused = biscuit::verify_sizes(
+    let refused = refusals::verify_sizes(
         set,
         public_key.len(),
         message.len(),
@@ -184,7 +185,7 @@ fn verify_sized(
     ensures { λ r. ⌜ verifyEnded r (now (work .exit)) ≡ verifyOutcome set (now («public_key» .entry)) (now (message .entry)) (now (signature .entry)) (now (work .entry)) ⌝ }
 {
     let p = sets::params_of(set);
-    let n = biscuit::work_len();
+    let n = refusals::work_len();
     let accepted = verifying::accepts(p, public_key, message, signature, &mut work[0..n]);
     clear_work(work);
     if accepted {
@@ -198,6 +199,6 @@ fn clear_work(work: &mut [u8])
     requires { ⌜ workLength ≤ length (now work) ⌝ }
     ensures { λ r. ⌜ now (work .exit) ≡ cleared (now (work .entry)) ⌝ }
 {
-    let n = biscuit::work_len();
+    let n = refusals::work_len();
     memory::clear(&mut work[0..n]);
 }

@@ -21,7 +21,7 @@ use Rattle.forms.specs.Circuit.{Circuit, Evaluation, expandCircuit, evalCircuit
 use Rattle.forms.specs.Room.{circuitLength, HoldsCircuit}
 use Rattle.forms.specs.Sampling.{sampleElements, expandElements}
 use Rattle.forms.proofs.Room.{sample-part, expanded-circuit}
-use Rattle.biscuit.specs.Desk.{workLength}
+use Rattle.refusals.specs.Refusals.{workLength}
 use Rattle.biscuit.specs.Keys.{circuit, secretOf, keyGen, secretBytes, publicBytes, publicOf, secretKey, publicKey}
 use Rattle.biscuit.specs.Room.{leavesAt, roomAt, rootsAt, challengesAt, roomEnd, Fits}
 use Rattle.keys.specs.Values.{KeyValues}

@@ -13,7 +13,7 @@ ghost use Rattle.sets.specs.Sets.{S, secretKeyLength, publicKeyLength};
 ghost use Rattle.forms.specs.Circuit.{Circuit, evalCircuit};
 ghost use Rattle.forms.specs.Room.{circuitLength, HoldsCircuit};
 ghost use Rattle.forms.specs.Sampling.{expandElements};
-ghost use Rattle.biscuit.specs.Desk.{workLength};
+ghost use Rattle.refusals.specs.Refusals.{workLength};
 ghost use Rattle.biscuit.specs.Keys.{secretKey, publicKey, packedSecret, consistentKey, publicHalf};
 ghost use Rattle.biscuit.specs.Room.{Fits};
 ghost use Rattle.keys.specs.Values.{KeyValues};

@@ -11,7 +11,7 @@ ghost use Rattle.memory.specs.Sections.{pieces};
 ghost use Rattle.field.specs.Packing.{Elements, packedLength};
 ghost use Rattle.sponge.specs.Steps.{absorbed};
 ghost use Rattle.sets.specs.Sets.{S};
-ghost use Rattle.biscuit.specs.Desk.{workLength};
+ghost use Rattle.refusals.specs.Refusals.{workLength};
 ghost use Rattle.biscuit.specs.Signature.{vectorCount};
 ghost use Rattle.biscuit.specs.Room.{Fits, groups, leavesAt, rootsAt};
 ghost use Rattle.biscuit.specs.Sign.{Signer, σ₁};

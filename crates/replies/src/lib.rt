@@ -13,7 +13,7 @@ ghost use Rattle.sets.specs.Sets.{S};
 ghost use Rattle.forms.specs.Circuit.{Circuit};
 ghost use Rattle.forms.specs.Room.{HoldsCircuit, hiddenIn};
 ghost use Rattle.vectors.specs.Elements.{elementsAt, elementsPut};
-ghost use Rattle.biscuit.specs.Desk.{workLength};
+ghost use Rattle.refusals.specs.Refusals.{workLength};
 ghost use Rattle.biscuit.specs.Signature.{vectorCount};
 ghost use Rattle.biscuit.specs.Room.{Fits, groups, leavesAt, rootsAt, challengesAt};
 ghost use Rattle.biscuit.specs.Sign.{Signer, σ₂};

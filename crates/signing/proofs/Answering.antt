@@ -24,7 +24,7 @@ use Rattle.hashes.proofs.Laws.{first-absorbed, second-absorbed, given-first, gi
 use Rattle.forms.specs.Room.{HoldsCircuit, challengeIn}
 use Rattle.forms.proofs.Room.{expanded-challenge}
 use Rattle.parties.specs.Repetition as repetition
-use Rattle.biscuit.specs.Desk.{workLength}
+use Rattle.refusals.specs.Refusals.{workLength}
 use Rattle.biscuit.specs.Room.{Fits, leavesAt, roomAt, rootsAt, challengesAt, roomEnd}
 use Rattle.biscuit.specs.Sign.{Signer, f, σ₁, h₁, h₂, ε, σ₂}
 use Rattle.passes.specs.Passes.{HoldsSecret, HoldsRoots, HoldsCorrections, Kept, rootIn}

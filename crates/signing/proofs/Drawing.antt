@@ -14,7 +14,7 @@ use Rattle.sponge.specs.Steps.{fresh, absorbed, finished, given, moved}
 use Rattle.sponge.proofs.Laws.{absorbed-append, given-append, given-shake256, length-given}
 use Rattle.hashes.specs.Hashes.{prf}
 use Rattle.forms.specs.Room.{HoldsCircuit}
-use Rattle.biscuit.specs.Desk.{workLength}
+use Rattle.refusals.specs.Refusals.{workLength}
 use Rattle.biscuit.specs.Room.{Fits, leavesAt, rootsAt, challengesAt}
 use Rattle.biscuit.specs.Sign.{f, signerOf, drawn}
 use Rattle.passes.specs.Passes.{HoldsSecret, HoldsRoots, rootIn}

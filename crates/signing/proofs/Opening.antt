@@ -13,7 +13,7 @@ use Rattle.field.specs.Packing.{Bytes, pack, packedLength}
 use Rattle.sets.specs.Sets.{S, signatureLength}
 use Rattle.sets.specs.declared.Params.{Params}
 use Rattle.forms.specs.Room.{HoldsCircuit, challengeIn}
-use Rattle.biscuit.specs.Desk.{workLength}
+use Rattle.refusals.specs.Refusals.{workLength}
 use Rattle.biscuit.specs.Room.{Fits, leavesAt, rootsAt, challengesAt}
 use Rattle.biscuit.specs.Signature.{repeated, shown, vectors, vectorCount, headLength, packingAt}
 use Rattle.biscuit.specs.Sign.{Signer, f, opening, signed}

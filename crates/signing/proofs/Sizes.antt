@@ -1,7 +1,6 @@
 -- The places of a signature's sections are small, and they fit the signature. Assumes nothing.
 use mathlib.Core.Path.{_≡_, refl}
 use Prim.Native.Nat.{_+_, _*_, _/_, _≤_}
-use native.Mathlib.Nat.{mul-le-mul-right}
 use native.Mathlib.Omega.{arith}
 use Rattle.field.specs.Packing.{packedLength}
 use Rattle.sets.specs.Sets.{S, signatureLength}
@@ -13,12 +12,6 @@ module _ (P : Params) (f : Fits P) where
   pub seed-small : P .bits / 8 ≤ 32
   unfolding S
   seed-small = f .seed
-
-  pub shown-small : P .l * (P .bits / 8) + 2 * (P .bits / 8) ≤ 320
-  shown-small = let a = mul-le-mul-right (P .bits / 8) (f .levels) in let b = seed-small in omega arith
-
-  pub body-small : P .tau * (P .l * (P .bits / 8) + 2 * (P .bits / 8)) ≤ 23360
-  body-small = let a = mul-le-mul-right (P .l * (P .bits / 8) + 2 * (P .bits / 8)) (f .repetitions) in let b = shown-small in omega arith
 
 -- the sections of a signature, as they follow each other
 pub record Sections (P : Params) : Type 0 where

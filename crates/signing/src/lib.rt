@@ -13,7 +13,7 @@ ghost use Rattle.memory.specs.Lists.{put};
 ghost use Rattle.field.specs.Packing.{Elements, pack, packedLength};
 ghost use Rattle.sets.specs.Sets.{S, secretKeyLength, signatureLength};
 ghost use Rattle.forms.specs.Room.{HoldsCircuit};
-ghost use Rattle.biscuit.specs.Desk.{workLength};
+ghost use Rattle.refusals.specs.Refusals.{workLength};
 ghost use Rattle.biscuit.specs.Keys.{consistentKey};
 ghost use Rattle.biscuit.specs.Room.{Fits, leavesAt};
 ghost use Rattle.biscuit.specs.Signature.{repeated, shown, vectors, vectorCount, headLength, packingAt, written};
@@ -189,19 +189,10 @@ fn write_hashed(
     requires { ⌜ (Fits p) × (length (now secret) ≡ p .n + p .m + p .m) × (Elements (now secret)) × (length (now salt) ≡ 2 * S p) × (length (now h1) ≡ 2 * S p) × (length (now h2) ≡ 2 * S p) × (length (now signature) ≡ signatureLength p) × (length (now work) ≡ workLength) ⌝ }
     ensures { λ r. ⌜ ((signer : Signer) → HoldsSigner p signer (now (salt .entry)) (now (secret .entry)) (now (work .entry)) → now (signature .exit) ≡ written p (signed p signer (now (message .entry)))) ⌝ }
 {
-    let a = packing_at(p);
+    let a = biscuit::packing_at(p);
     let e = signature.len();
     commit(p, message, secret, salt, h1, h2, &mut signature[a..e], work);
     open(p, secret, salt, h1, h2, signature, work);
-}
-
-// Where the packing of a signature begins.
-fn packing_at(p: Params) -> usize
-    requires { ⌜ Fits p ⌝ }
-    ensures { λ r. ⌜ r ≡ packingAt p ⌝ }
-{
-    let s = p.bits / 8;
-    2 * s + 2 * s + 2 * s + p.tau * (p.l * s + 2 * s)
 }
 
 // Phases 1 to 4: both hashes, and the corrections in the packing.
@@ -311,7 +302,7 @@ fn open_hidden(
     let map = biscuit::layout_of(p);
     let s = p.bits / 8;
     let a = 2 * s + 2 * s + 2 * s;
-    let b = packing_at(p);
+    let b = biscuit::packing_at(p);
     let e = signature.len();
     let c = map.roots;
     let d = map.challenges;

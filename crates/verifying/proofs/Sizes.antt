@@ -16,8 +16,8 @@ use Rattle.sets.specs.declared.Params.{Params}
 use Rattle.forms.specs.Room.{circuitLength, hiddenIn}
 use Rattle.biscuit.specs.Signature.{headLength, shownLength, shownAt, packingAt}
 use Rattle.biscuit.specs.Room.{groups, leavesAt, roomAt, rootsAt, challengesAt, roomEnd, Fits}
-use Rattle.biscuit.specs.Desk.{workLength}
-use Rattle.biscuit.proofs.Refusals.{workLength-is}
+use Rattle.refusals.specs.Refusals.{workLength}
+use Rattle.refusals.proofs.Refusals.{workLength-is}
 use Rattle.biscuit.proofs.Room.{few-groups}
 
 -- ---- work
@@ -84,17 +84,6 @@ module _ (P : Params) (f : Fits P) where
   pub seed-fits : S P ≤ publicKeyLength P
   unfolding publicKeyLength
   seed-fits = omega arith
-
-  -- path and commitment of one repetition
-  pub shown-small : P .l * S P ≤ 256
-  shown-small = let a = mul-le-mul {n₁ = P .l} {m₁ = S P} {n₂ = 8} {m₂ = 32} (f .levels) (f .seed) in omega arith
-
-  pub all-shown-small : P .tau * (P .l * S P + 2 * S P) ≤ 23360
-  all-shown-small =
-      let a = shown-small in
-      let s = f .seed in
-      let b = mul-le-mul {n₁ = P .tau} {m₁ = P .l * S P + 2 * S P} {n₂ = 73} {m₂ = 320} (f .repetitions) (omega arith) in
-      omega arith
 
   module _ (e : ℕ) (from-one : 1 ≤ e) (within : e ≤ P .tau) where
     pub turn-small : (w : ℕ) → (e - 1) * w + w ≤ P .tau * w

@@ -19,7 +19,7 @@ ghost use Rattle.parties.specs.Repetition.{givenAt};
 ghost use Rattle.biscuit.specs.Keys.{PublicKey, publicKeyOf};
 ghost use Rattle.biscuit.specs.Signature.{shownAt, packingAt, openingOf, extracted};
 ghost use Rattle.biscuit.specs.Verify as verify;
-ghost use Rattle.biscuit.specs.Desk.{workLength};
+ghost use Rattle.refusals.specs.Refusals.{workLength};
 ghost use Rattle.biscuit.specs.Room.{Fits, leavesAt, rootsAt, roomEnd};
 ghost use Rattle.verifying.specs.Turns.{circuitOf, leavesOf, challengesOf, Expanded, valuesOf, leaves, firstOf, secondOf, Turned, Hashed};
 
@@ -178,7 +178,7 @@ fn read_corrections(p: Params, e: usize, signature: &[u8], out: &mut [u8])
     requires { ⌜ (Fits p) × (1 ≤ e) × (e ≤ p .tau) × (length (now signature) ≡ signatureLength p) × (length (now out) ≡ p .n + p .m) ⌝ }
     ensures { λ r. ⌜ now (out .exit) ≡ openingOf p (now (signature .entry)) e .Δs ++ openingOf p (now (signature .entry)) e .Δc ⌝ }
 {
-    let a = packing_at(p);
+    let a = biscuit::packing_at(p);
     let b = signature.len();
     vectors::read_elements(&signature[a..b], (e - 1) * (p.n + p.m), out);
 }
@@ -209,19 +209,10 @@ fn read_alpha(p: Params, e: usize, signature: &[u8], out: &mut [u8])
     requires { ⌜ (Fits p) × (1 ≤ e) × (e ≤ p .tau) × (length (now signature) ≡ signatureLength p) × (length (now out) ≡ p .m) ⌝ }
     ensures { λ r. ⌜ now (out .exit) ≡ openingOf p (now (signature .entry)) e .α ⌝ }
 {
-    let a = packing_at(p);
+    let a = biscuit::packing_at(p);
     let b = signature.len();
     let at = p.tau * (p.n + p.m) + (e - 1) * p.m;
     vectors::read_elements(&signature[a..b], at, out);
-}
-
-// Where the packed vectors of a signature begin.
-fn packing_at(p: Params) -> usize
-    requires { ⌜ Fits p ⌝ }
-    ensures { λ r. ⌜ r ≡ packingAt p ⌝ }
-{
-    let s = p.bits / 8;
-    6 * s + p.tau * (p.l * s + 2 * s)
 }
 
 // Where the path and the hidden commitment of repetition e begin in a signature.

@@ -6,7 +6,7 @@ use native.Mathlib.Omega.{arith}
 use lib.ListN.{length}
 use borrow.Author.Needs.{needs}
 use Rattle.memory.specs.Lists.{over}
-use Rattle.biscuit.proofs.Refusals.{make-keys-right}
+use Rattle.refusals.proofs.Refusals.{make-keys-right}
 use Rattle.calls.proofs.Ended.{make-keys-asked, make-keys-ended}
 use Rattle.calls.proofs.Lending.{lent-over, work-long, cleared-lent}
 use Rattle.calls.proofs.make_keys_sized.Statement.{statement}

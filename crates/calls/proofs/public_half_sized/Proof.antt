@@ -4,7 +4,7 @@ use mathlib.Core.Path.{sym, _∙_}
 use native.Mathlib.Omega.{arith}
 use lib.ListN.{length}
 use borrow.Author.Needs.{needs}
-use Rattle.biscuit.proofs.Refusals.{public-half-right}
+use Rattle.refusals.proofs.Refusals.{public-half-right}
 use Rattle.biscuit.specs.Keys.{consistentKey, publicHalf}
 use Rattle.calls.proofs.Ended.{public-half-asked, public-half-ended}
 use Rattle.calls.proofs.Lending.{lent-answered, work-long, cleared-lent}

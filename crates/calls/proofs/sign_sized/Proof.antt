@@ -3,7 +3,7 @@ use mathlib.Core.Bool.{true, false}
 use mathlib.Core.Path.{sym, _∙_}
 use native.Mathlib.Omega.{arith}
 use lib.ListN.{length}
-use Rattle.biscuit.proofs.Refusals.{sign-right}
+use Rattle.refusals.proofs.Refusals.{sign-right}
 use Rattle.biscuit.specs.Keys.{consistentKey}
 use Rattle.biscuit.specs.Sign.{signature}
 use Rattle.calls.proofs.Ended.{sign-asked, sign-ended}

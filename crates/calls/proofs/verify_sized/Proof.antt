@@ -3,7 +3,7 @@ use mathlib.Core.Bool.{true, false}
 use mathlib.Core.Path.{sym, _∙_}
 use native.Mathlib.Omega.{arith}
 use lib.ListN.{length}
-use Rattle.biscuit.proofs.Refusals.{verify-right}
+use Rattle.refusals.proofs.Refusals.{verify-right}
 use Rattle.calls.proofs.Ended.{verify-asked, verify-ended}
 use Rattle.calls.proofs.Lending.{work-long, cleared-lent}
 use borrow.Author.Needs.{needs}

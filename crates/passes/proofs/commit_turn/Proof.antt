@@ -2,7 +2,7 @@
 use mathlib.Core.Path.{ap, _∙_}
 use native.Mathlib.Omega.{arith}
 use lib.ListN.{length}
-use Rattle.biscuit.proofs.Refusals.{workLength-is}
+use Rattle.refusals.proofs.Refusals.{workLength-is}
 use Rattle.passes.proofs.Bounds.{mapped}
 use Rattle.passes.proofs.Planting.{planted-part, length-planted, planted-kept}
 use Rattle.passes.proofs.Committing.{committed-seeds, kept-same}

@@ -3,7 +3,7 @@ use mathlib.Core.Path.{sym, ap, _∙_}
 use native.Mathlib.Omega.{arith}
 use Prim.Native.Nat.{_*_, _^_}
 use Rattle.sets.specs.Sets.{S, N}
-use Rattle.biscuit.proofs.Refusals.{workLength-is}
+use Rattle.refusals.proofs.Refusals.{workLength-is}
 use Rattle.passes.proofs.Bounds.{mapped, root-end}
 use Rattle.passes.proofs.Planting.{planted, lent-length}
 use borrow.Author.Needs.{needs}

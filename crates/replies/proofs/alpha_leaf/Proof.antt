@@ -2,7 +2,7 @@
 use mathlib.Core.Path.{refl, _∙_}
 use native.Mathlib.Omega.{arith}
 use Rattle.sets.specs.Sets.{S}
-use Rattle.biscuit.proofs.Refusals.{workLength-is}
+use Rattle.refusals.proofs.Refusals.{workLength-is}
 use Rattle.passes.proofs.Bounds.{mapped, root-end}
 use Rattle.replies.proofs.Lending.{rep-sized, rep-nobody, rep-values, rep-equations, circuit-size, leaf-size, alpha-lent}
 use Rattle.replies.proofs.alpha_leaf.Statement.{statement}

@@ -3,7 +3,7 @@ use mathlib.Core.Path.{sym, subst, _∙_}
 use native.Mathlib.Omega.{arith}
 use mathlib.Core.List.{List}
 use Rattle.field.specs.Packing.{Elements}
-use Rattle.biscuit.proofs.Refusals.{workLength-is}
+use Rattle.refusals.proofs.Refusals.{workLength-is}
 use Rattle.passes.proofs.Bounds.{mapped}
 use Rattle.replies.proofs.Values.{values-elements}
 use Rattle.replies.proofs.Lending.{rep-sized, rep-some, rep-values, rooms-size, absorbed-leaves, rooms-kept, answered-values}

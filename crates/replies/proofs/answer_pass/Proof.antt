@@ -9,7 +9,7 @@ use Rattle.answers.proofs.Absorbing.{Absorbing, absorbing-none}
 use Rattle.biscuit.specs.Signature.{repeated}
 use Rattle.biscuit.specs.Room.{rootsAt}
 use Rattle.biscuit.specs.Sign.{Signer}
-use Rattle.biscuit.proofs.Refusals.{workLength-is}
+use Rattle.refusals.proofs.Refusals.{workLength-is}
 use Rattle.passes.specs.Passes.{HoldsRoots, Kept}
 use Rattle.passes.proofs.Committing.{kept-none, kept-more, roots-kept}
 use Rattle.replies.specs.Replies.{Challenged}

@@ -4,7 +4,7 @@ use native.Mathlib.Omega.{arith}
 use Prim.Native.Nat.{_+_, _-_, _*_}
 use lib.ListN.{replicate}
 use lib.Seq.{length-take-le}
-use Rattle.biscuit.proofs.Refusals.{workLength-is}
+use Rattle.refusals.proofs.Refusals.{workLength-is}
 use Rattle.replies.proofs.Lending.{answered-planted, kept-planted}
 use borrow.Author.Needs.{needs}
 use Rattle.replies.proofs.answer_turn.Statement.{statement}

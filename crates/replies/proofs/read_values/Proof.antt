@@ -2,7 +2,7 @@
 use mathlib.Core.Path.{refl}
 use native.Mathlib.Omega.{arith}
 use Rattle.field.specs.Packing.{packedLength}
-use Rattle.biscuit.proofs.Refusals.{workLength-is}
+use Rattle.refusals.proofs.Refusals.{workLength-is}
 use Rattle.replies.proofs.Lending.{challenge-end, values-lent}
 use Rattle.replies.proofs.read_values.Statement.{statement}
 use Rattle.replies.proofs.read_values.Tie as tie

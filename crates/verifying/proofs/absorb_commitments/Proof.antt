@@ -6,7 +6,8 @@ use native.Mathlib.Omega.{arith}
 use lib.Pow.{pow-pos}
 use Rattle.sponge.specs.Steps.{absorbed}
 use Rattle.sets.specs.Sets.{S, N}
-use Rattle.verifying.proofs.Sizes.{ordered, head-fits, shown-small, commitment-fits, salt-short, leaves-length}
+use Rattle.biscuit.proofs.Sizes.{shown-small}
+use Rattle.verifying.proofs.Sizes.{ordered, head-fits, commitment-fits, salt-short, leaves-length}
 use Rattle.verifying.proofs.Turning.{commitments-as}
 use borrow.Author.Needs.{needs}
 use Rattle.verifying.proofs.absorb_commitments.Statement.{statement}

@@ -4,7 +4,8 @@ use mathlib.Core.Path.{refl}
 use Prim.Native.Nat.{_/_}
 use native.Mathlib.Omega.{arith}
 use Rattle.sets.specs.Sets.{S, N}
-use Rattle.verifying.proofs.Sizes.{ordered, head-fits, shown-small, path-fits, salt-short, path-length, leaves-length}
+use Rattle.biscuit.proofs.Sizes.{shown-small}
+use Rattle.verifying.proofs.Sizes.{ordered, head-fits, path-fits, salt-short, path-length, leaves-length}
 use Rattle.verifying.proofs.Turning.{rebuilt-work}
 use borrow.Author.Needs.{needs}
 use Rattle.verifying.proofs.rebuild.Statement.{statement}

@@ -4,7 +4,8 @@ use Prim.Native.Nat.{_+_, _*_, _/_}
 use native.Mathlib.Omega.{arith}
 use Rattle.sets.specs.Sets.{S}
 use Rattle.biscuit.specs.Signature.{headLength, shownLength, shownAt}
-use Rattle.verifying.proofs.Sizes.{shown-small, all-shown-small, turn-small}
+use Rattle.biscuit.proofs.Sizes.{shown-small, all-shown-small}
+use Rattle.verifying.proofs.Sizes.{turn-small}
 use borrow.Author.Needs.{needs}
 use Rattle.verifying.proofs.shown_at.Statement.{statement}
 use Rattle.verifying.proofs.shown_at.Tie as tie
