@@ -5,3 +5,4 @@ pub mod Turning
 pub mod Values
 pub mod OneAlpha
 pub mod Work
+pub mod OneOutcome

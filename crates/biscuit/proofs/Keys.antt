@@ -109,9 +109,9 @@ publicKeyOf-publicBytes P key f t h =
 -- ---- what a reader gets has its sizes
 
 module _ (P : Params) (sk : List ℕ) where
-  count : length (packedSecret P sk) ≡ P .n + P .m + P .m
+  pub length-packed : length (packedSecret P sk) ≡ P .n + P .m + P .m
   unfolding packedSecret
-  count = length-unpack (P .n + P .m + P .m) (drop (S P) sk)
+  length-packed = length-unpack (P .n + P .m + P .m) (drop (S P) sk)
 
   elements : Elements (packedSecret P sk)
   unfolding packedSecret
@@ -122,9 +122,9 @@ module _ (P : Params) (sk : List ℕ) where
   unfolding secretKeyOf secretKeyLength
   secretKeyOf-sized h = record {
     seedF = length-take-le (S P) sk (omega arith);
-    s = length-take-le (P .n) (packedSecret P sk) (let c = count in omega arith);
-    t = length-take-le (P .m) (drop (P .n) (packedSecret P sk)) (let c = count in simp length-drop (omega arith));
-    y = length-take-le (P .m) (drop (P .n + P .m) (packedSecret P sk)) (let c = count in simp length-drop (omega arith));
+    s = length-take-le (P .n) (packedSecret P sk) (let c = length-packed in omega arith);
+    t = length-take-le (P .m) (drop (P .n) (packedSecret P sk)) (let c = length-packed in simp length-drop (omega arith));
+    y = length-take-le (P .m) (drop (P .n + P .m) (packedSecret P sk)) (let c = length-packed in simp length-drop (omega arith));
     s-elements = take-elements (P .n) (packedSecret P sk) elements;
     t-elements = take-elements (P .m) (drop (P .n) (packedSecret P sk)) (drop-elements (P .n) (packedSecret P sk) elements);
     y-elements = take-elements (P .m) (drop (P .n + P .m) (packedSecret P sk)) (drop-elements (P .n + P .m) (packedSecret P sk) elements);

@@ -1,10 +1,10 @@
 pub mod Accepted
-pub mod Assembled
 pub mod Comparisons
 pub mod Genuine
 pub mod Keys
 pub mod OneOutcome
 pub mod Outcomes
+pub mod Parts
 pub mod Places
 pub mod ReadBack
 pub mod Repeated

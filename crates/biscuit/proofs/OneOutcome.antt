@@ -1,27 +1,30 @@
--- For each of the four calls: any two outcomes that its promise allows are equal. A promise is an equation to the outcome that the inputs, and what lay in the lent
--- parts before, determine; so number and every byte are settled, for refusals too. Assumes nothing.
-use mathlib.Core.Path.{_≡_, sym, _∙_}
-use mathlib.Core.List.{List}
+-- Each public function of this crate has one outcome: its promise is an equation to a definition of the arguments, for a record field by field.
+-- The four calls themselves are in the crates `calls` and `desk`, and so are their theorems. Assumes nothing.
+use mathlib.Core.Path.{_≡_, sym, ap, _∙_}
 use Prim.Native.Nat.{ℕ}
-use Rattle.biscuit.specs.Desk.{MakeKeysOutcome, makeKeysOutcome, PublicHalfOutcome, publicHalfOutcome, SignOutcome, signOutcome, VerifyOutcome, verifyOutcome}
+use Rattle.memory.specs.Outcome.{OneOutcome}
+use Rattle.sets.specs.declared.Params.{Params}
+use Rattle.biscuit.specs.declared.Layout.{Layout}
+use Rattle.biscuit.specs.Room.{LayoutOf}
+use Rattle.biscuit.proofs.«layout_of» as layout-of
+use Rattle.biscuit.proofs.«groups_of» as groups-of
+use Rattle.biscuit.proofs.«packing_at» as packing-at
 
--- Making keys has one outcome.
-pub make-keys-one-outcome : (set : ℕ) (circuitSeed secretSeed skBefore pkBefore workBefore : List ℕ) (x y : MakeKeysOutcome)
-    → x ≡ makeKeysOutcome set circuitSeed secretSeed skBefore pkBefore workBefore
-    → y ≡ makeKeysOutcome set circuitSeed secretSeed skBefore pkBefore workBefore → x ≡ y
-make-keys-one-outcome set circuitSeed secretSeed skBefore pkBefore workBefore x y p q = p ∙ sym q
+pub groups-of-one-outcome : OneOutcome groups-of.Kinds.ps groups-of.Kinds.r groups-of.Reads.Asked groups-of.Reads.Learnt
+groups-of-one-outcome κs a good asked o q x y = ap (λ (z : ℕ). (z, (tt, tt))) (x .promised ∙ sym (y .promised))
 
--- The public half has one outcome.
-pub public-half-one-outcome : (set : ℕ) (sk pkBefore workBefore : List ℕ) (x y : PublicHalfOutcome)
-    → x ≡ publicHalfOutcome set sk pkBefore workBefore → y ≡ publicHalfOutcome set sk pkBefore workBefore → x ≡ y
-public-half-one-outcome set sk pkBefore workBefore x y p q = p ∙ sym q
+pub packing-at-one-outcome : OneOutcome packing-at.Kinds.ps packing-at.Kinds.r packing-at.Reads.Asked packing-at.Reads.Learnt
+packing-at-one-outcome κs a good asked o q x y = ap (λ (z : ℕ). (z, (tt, tt))) (x .promised ∙ sym (y .promised))
 
--- Signing has one outcome.
-pub sign-one-outcome : (set : ℕ) (sk msg rnd sigBefore workBefore : List ℕ) (x y : SignOutcome)
-    → x ≡ signOutcome set sk msg rnd sigBefore workBefore → y ≡ signOutcome set sk msg rnd sigBefore workBefore → x ≡ y
-sign-one-outcome set sk msg rnd sigBefore workBefore x y p q = p ∙ sym q
+-- the places, as numbers, are fixed one by one
+layout-fixed : {P : Params} {x y : Layout} → LayoutOf P x → LayoutOf P y → x ≡ y
+layout-fixed p q = λ i. record {
+  leaves = (p .leaves ∙ sym (q .leaves)) i;
+  room = (p .room ∙ sym (q .room)) i;
+  roots = (p .roots ∙ sym (q .roots)) i;
+  challenges = (p .challenges ∙ sym (q .challenges)) i;
+  end = (p .end ∙ sym (q .end)) i;
+}
 
--- Verifying has one outcome.
-pub verify-one-outcome : (set : ℕ) (pk msg sig workBefore : List ℕ) (x y : VerifyOutcome)
-    → x ≡ verifyOutcome set pk msg sig workBefore → y ≡ verifyOutcome set pk msg sig workBefore → x ≡ y
-verify-one-outcome set pk msg sig workBefore x y p q = p ∙ sym q
+pub layout-of-one-outcome : OneOutcome layout-of.Kinds.ps layout-of.Kinds.r layout-of.Reads.Asked layout-of.Reads.Learnt
+layout-of-one-outcome κs a good asked o q x y = ap (λ (l : Layout). (l, (tt, tt))) (layout-fixed (x .promised) (y .promised))

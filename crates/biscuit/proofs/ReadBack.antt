@@ -16,7 +16,7 @@ use Rattle.sets.specs.Sets.{S}
 use Rattle.sets.specs.declared.Params.{Params}
 use Rattle.biscuit.specs.Signature.{Opening, Signature, repeated, shown, vectors, written, headLength, shownLength, shownAt, packingAt, vectorCount, packedVectors, openingOf, extracted}
 use Rattle.biscuit.proofs.Repeated.{stands-self, stands-within, stands-read, stands-drop, repeated-stands}
-use Rattle.biscuit.proofs.Written.{SizedOpening, Sized, length-shown, length-pair, length-pairs, length-vectors, vectors-elements, length-body}
+use Rattle.biscuit.proofs.Written.{SizedOpening, SizedSignature, length-shown, length-pair, length-pairs, length-vectors, vectors-elements, length-body}
 
 -- two signatures that agree in all that is laid out
 pub record Agree (P : Params) (σ σ' : Signature) : Type 0 where
@@ -44,7 +44,7 @@ unfolding packedLength
 unpack-pack-front v c n e h =
     unpack-front n (pack v) c (let l = length-pack v in omega arith) ∙ ap (λ (k : ℕ). unpack k (pack v)) (sym e) ∙ unpack-pack v h
 
-module _ (P : Params) (σ : Signature) (z : Sized P σ) where
+module _ (P : Params) (σ : Signature) (z : SizedSignature P σ) where
   -- the bytes, and their tails
   x : List ℕ
   x = written P σ

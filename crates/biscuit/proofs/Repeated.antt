@@ -5,11 +5,13 @@ use mathlib.Core.List.{List, _++_}
 use Prim.Native.Nat.{ℕ, zero, suc, _+_, _-_, _*_, _≤_, _<_}
 use native.Mathlib.Nat.{zero-add, add-zero, add-assoc, suc-mul, zero-mul}
 use native.Mathlib.Decide.{decLt}
+use native.Mathlib.Numerals.{add-one}
 use native.Mathlib.Omega.{arith}
 use lib.ListN.{length, getD, take, drop, length-append, length-take, take-append-drop, List·getD-append, List·getD-eq-default}
 use lib.Seq.{drop-drop, getD-append-add, getD-take, getD-drop}
 use Rattle.memory.specs.Lists.{StandsAt}
-use Rattle.memory.proofs.Stands.{stands-before, stands-behind, stands-part}
+use Rattle.memory.proofs.Lists.{room}
+use Rattle.memory.proofs.Stands.{stands-before, stands-behind, stands-joined, stands-part}
 use Rattle.field.specs.Packing.{Elements}
 use Rattle.biscuit.specs.Signature.{repeated}
 
@@ -37,9 +39,24 @@ stands-drop x k v s =
 
 -- ---- repetitions
 
-pub repeated-suc : (τ : ℕ) (f : ℕ → List ℕ) → repeated (suc τ) f ≡ repeated τ f ++ f (suc τ)
+-- the w of repetition e among those of τ repetitions
+pub among : (e τ w : ℕ) → 1 ≤ e → e ≤ τ → (e - 1) * w + w ≤ τ * w
+among e τ w h k = room (e - 1) τ w (omega arith)
+
+-- where it ends, if the first begins at `from`
+pub among-end : (e τ w from end v at : ℕ) → 1 ≤ e → e ≤ τ → from + τ * w ≤ end → v ≡ w → at ≡ from → at + (e - 1) * v + v ≤ end
+among-end e τ w from end v at h k fits ev ea =
+    let r = among e τ w h k in
+    let g = ap (λ (x : ℕ). (e - 1) * x) ev in
+    omega arith
+
+repeated-suc : (τ : ℕ) (f : ℕ → List ℕ) → repeated (suc τ) f ≡ repeated τ f ++ f (suc τ)
 unfolding repeated
 repeated-suc τ f = refl
+
+-- one repetition more
+pub repeated-more : (i : ℕ) (f : ℕ → List ℕ) → repeated i f ++ f (i + 1) ≡ repeated (i + 1) f
+repeated-more i f = ap (λ (j : ℕ). repeated i f ++ f j) (add-one i) ∙ sym (repeated-suc i f) ∙ ap (λ (j : ℕ). repeated j f) (sym (add-one i))
 
 -- the values from 1 to τ decide
 pub repeated-same : (τ : ℕ) (f g : ℕ → List ℕ) → ((e : ℕ) → 1 ≤ e → e ≤ τ → f e ≡ g e) → repeated τ f ≡ repeated τ g
@@ -74,6 +91,20 @@ repeated-stands (suc τ) f w h e p q =
     ]
   where
     before : (n : ℕ) → n ≡ suc n - 1
+    before n = omega arith
+
+-- repetitions that stand each at its place stand together
+pub stands-repeated : (x : List ℕ) (k τ : ℕ) (f : ℕ → List ℕ) (w : ℕ) → k ≤ length x → ((e : ℕ) → 1 ≤ e → e ≤ τ → length (f e) ≡ w)
+    → ((e : ℕ) → 1 ≤ e → e ≤ τ → StandsAt x (k + (e - 1) * w) (f e)) → StandsAt x k (repeated τ f)
+unfolding repeated
+stands-repeated x k zero f w h l s = record { fits = omega arith; entry = λ i g. absurd (omega arith) }
+stands-repeated x k (suc τ) f w h l s =
+    stands-joined x k (repeated τ f) (f (suc τ))
+    (stands-repeated x k τ f w h (λ e a b. l e a (omega arith)) (λ e a b. s e a (omega arith)))
+    (subst (λ (j : ℕ). StandsAt x (k + j) (f (suc τ)))
+    (ap (λ (i : ℕ). i * w) (before τ) ∙ sym (length-repeated τ f w (λ e a b. l e a (omega arith)))) (s (suc τ) (omega arith) (omega arith)))
+  where
+    before : (n : ℕ) → suc n - 1 ≡ n
     before n = omega arith
 
 -- ---- elements

@@ -1,23 +1,21 @@
 -- What signing writes has its sizes: every part of a signature that algorithm 12 gives is as long as the layout wants it, and its vectors are of elements.
 -- Assumes nothing.
 use mathlib.Core.Path.{_≡_, ap, _∙_}
-use mathlib.Core.Bool.{Bool, true, false, cond}
 use mathlib.Core.List.{List, [], _∷_, _++_}
-use Prim.Native.Nat.{ℕ, zero, suc, _+_, _-_, _*_, _/_, _%_, _^_, _<_}
+use Prim.Native.Nat.{ℕ, suc, _+_, _-_, _*_, _^_, _<_}
 use native.Mathlib.Omega.{arith}
-use lib.Dec.{eqb}
-use lib.ListN.{length, getD, take, drop, length-drop}
+use lib.ListN.{length, getD}
 use lib.Seq.{length-take-le}
-use Rattle.memory.proofs.Sections.{Each, no-section, one-more, each-append}
 use Rattle.field.specs.Vectors.{_⊕_, _⊙_}
 use Rattle.field.proofs.Vectors.{length-⊕, length-⊙}
 use Rattle.sponge.proofs.Laws.{length-shake256}
 use Rattle.sets.specs.Sets.{S, secretKeyLength}
 use Rattle.sets.specs.declared.Params.{Params}
-use Rattle.hashes.specs.Hashes.{hash1, hash2, prf, childSeeds}
-use Rattle.hashes.proofs.Laws.{length-commit, length-childSeeds}
-use Rattle.tree.specs.Tree.{children, position, beside, onWay, pathAt, getPath}
+use Rattle.hashes.specs.Hashes.{hash1, hash2, prf}
+use Rattle.hashes.proofs.Laws.{length-commit}
+use Rattle.tree.specs.Tree.{children}
 use Rattle.tree.proofs.Theorems.{length-getSeeds, length-getPath}
+use Rattle.tree.proofs.Walking.{each-getPath}
 use Rattle.forms.proofs.Sampling.{Index, expandIndex-index}
 use Rattle.forms.proofs.Circuit.{expandCircuit-equations}
 use Rattle.parties.specs.Parties.{Share, secret, mask, helper}
@@ -29,31 +27,12 @@ use Rattle.parties.proofs.ShareElements.{deltaS-elements, deltaC-elements, shar
 use Rattle.biscuit.specs.Keys.{circuit}
 use Rattle.biscuit.specs.Sign.{Signer, f, seeds, coms, deltaS, deltaC, shares, h₁, ε, αs, h₂, hidden, opening, signed, drawn, signerOf, sign}
 use Rattle.biscuit.proofs.Keys.{SizedKey, secretKeyOf-sized}
-use Rattle.biscuit.proofs.Written.{SizedOpening, Sized}
-
--- ---- the seeds of a path
-
-length-beside : (S : ℕ) (salt : List ℕ) (e k j : ℕ) (s : List ℕ) (p : ℕ) → length (beside p (children S salt e k j s)) ≡ S
-unfolding beside children
-length-beside S salt e k j s p = of (eqb (p % 2) 1)
-  where
-    of : (b : Bool) → length (cond b (take S (childSeeds S salt e k j s)) (drop S (childSeeds S salt e k j s))) ≡ S
-    of true = length-take-le S (childSeeds S salt e k j s) (let l = length-childSeeds S salt e k j s in omega arith)
-    of false = let l = length-childSeeds S salt e k j s in simp length-drop (omega arith)
-
--- every seed of a path has S bytes
-each-getPath : (S : ℕ) (salt : List ℕ) (e L : ℕ) (root : List ℕ) (h : ℕ) → Each S (getPath (children S salt e) L root h)
-unfolding getPath pathAt
-each-getPath S salt e L root h = upTo L
-  where
-    upTo : (k : ℕ) → Each S (pathAt (children S salt e) L root h k)
-    upTo zero = no-section
-    upTo (suc k) = each-append (upTo k) (one-more (length-beside S salt e k (position L h (suc k) / 2) (onWay (children S salt e) L root h k) (position L h (suc k))) no-section)
+use Rattle.biscuit.proofs.Written.{SizedOpening, SizedSignature}
 
 -- ---- the corrections of one repetition
 
 module _ (P : Params) (salt : List ℕ) (e : ℕ) (seeds : List (List ℕ)) where
-  length-deltaS : (s : List ℕ) → length s ≡ P .n → length (repetition.deltaS P salt e s seeds) ≡ P .n
+  pub length-deltaS : (s : List ℕ) → length s ≡ P .n → length (repetition.deltaS P salt e s seeds) ≡ P .n
   unfolding repetition.deltaS
   length-deltaS s n =
       let l = length-secret-le (P .n) (P .m) (repetition.raws P salt e seeds) (raws-sized P salt e seeds) in
@@ -120,7 +99,7 @@ module _ (P : Params) (signer : Signer) (msg : List ℕ) where
         }
 
     -- Whatever salt of 2S bytes and whatever roots a signer has, the signature has its sizes.
-    pub signed-sized : length (signer .salt) ≡ 2 * S P → Sized P (signed P signer msg)
+    pub signed-sized : length (signer .salt) ≡ 2 * S P → SizedSignature P (signed P signer msg)
     unfolding signed h₁ h₂ hash1 hash2
     signed-sized salt = record {
       salt = salt;
@@ -135,6 +114,6 @@ unfolding signerOf drawn prf
 length-salt P sk rnd msg = length-take-le (2 * S P) _ (let l = length-shake256 (rnd ++ (sk ++ msg)) (2 * S P + P .tau * S P) in omega arith)
 
 -- What signing gives has its sizes, for every secret key of the right length.
-pub sign-sized : (P : Params) (sk rnd msg : List ℕ) → length sk ≡ secretKeyLength P → Sized P (sign P sk rnd msg)
+pub sign-sized : (P : Params) (sk rnd msg : List ℕ) → length sk ≡ secretKeyLength P → SizedSignature P (sign P sk rnd msg)
 unfolding sign signerOf
 sign-sized P sk rnd msg h = signed-sized P (signerOf P sk rnd msg) msg (secretKeyOf-sized P sk h) (length-salt P sk rnd msg)

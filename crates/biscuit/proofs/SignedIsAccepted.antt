@@ -6,10 +6,8 @@ use mathlib.Core.List.{List}
 use Prim.Native.Nat.{ℕ, _≤_}
 use native.Mathlib.Decide.{ℕ-discrete}
 use native.Mathlib.Omega.{arith}
-use lib.ListN.{length, take, drop}
-use lib.Seq.{take-at}
-use Rattle.memory.specs.Lists.{over}
-use Rattle.memory.proofs.Parts.{over-fits}
+use lib.ListN.{length, take}
+use Rattle.memory.proofs.Xors.{take-over}
 use Rattle.sets.specs.Sets.{paramsOf, secretKeyLength, publicKeyLength, signatureLength}
 use Rattle.biscuit.specs.Keys.{secretKey, publicKey, consistentKey, publicHalf}
 use Rattle.biscuit.specs.Sign.{signature}
@@ -19,10 +17,6 @@ use Rattle.biscuit.proofs.Keys.{length-secretKey, length-publicKey, len
 use Rattle.biscuit.proofs.Genuine.{length-signature, genuine-in-every-set}
 use Rattle.refusals.proofs.Refusals.{SignRight, make-keys-right, public-half-right, sign-right, right-verify, orElse-right, orElse-refused}
 use Rattle.biscuit.proofs.Outcomes.{make-keys-done, public-half-done, sign-done, verify-genuine}
-
--- an output that holds the result first
-result-first : (new old : List ℕ) (n : ℕ) → length new ≡ n → n ≤ length old → take n (over new old) ≡ new
-result-first new old n e h = ap (take n) (over-fits new old (omega arith)) ∙ take-at new (drop (length new) old) n e
 
 -- ---- a call whose number is 0
 
@@ -59,7 +53,7 @@ signed-with-0 set sk msg rnd sigBefore workBefore ended p z =
       consistent = key;
       bytes =
           ap (λ (o : SignOutcome). take (signatureLength (paramsOf set)) (o .signature)) (p ∙ sym (sign-done set sk msg rnd sigBefore workBefore (d .0) key))
-          ∙ result-first (signature (paramsOf set) sk rnd msg) sigBefore (signatureLength (paramsOf set)) (length-signature (paramsOf set) sk rnd msg (right .secretKey)) (right .signature);
+          ∙ take-over (signature (paramsOf set) sk rnd msg) sigBefore (signatureLength (paramsOf set)) (length-signature (paramsOf set) sk rnd msg (right .secretKey)) (right .signature);
     }
 
 -- what a call for the public half wrote
@@ -71,7 +65,7 @@ half-with-0 set sk pkBefore workBefore ended p z =
     let d = both-done (publicHalfSizes set (length sk) (length pkBefore) (length workBefore)) (keyNumber set sk) (sym (ap (λ (o : PublicHalfOutcome). o .number) p) ∙ z) in
     let right = public-half-right set (length sk) (length pkBefore) (length workBefore) (d .0) in
     ap (λ (o : PublicHalfOutcome). take (publicKeyLength (paramsOf set)) (o .publicKey)) (p ∙ sym (public-half-done set sk pkBefore workBefore (d .0) (key-done set sk (d .1))))
-    ∙ result-first (publicHalf (paramsOf set) sk) pkBefore (publicKeyLength (paramsOf set)) (length-publicHalf (paramsOf set) sk (right .secretKey)) (right .publicKey)
+    ∙ take-over (publicHalf (paramsOf set) sk) pkBefore (publicKeyLength (paramsOf set)) (length-publicHalf (paramsOf set) sk (right .secretKey)) (right .publicKey)
 
 -- ---- the theorems
 
@@ -126,9 +120,9 @@ made-with-0 set circuitSeed secretSeed skBefore pkBefore workBefore ended p z =
     let done = p ∙ sym (make-keys-done set circuitSeed secretSeed skBefore pkBefore workBefore zero) in
     let f = right .circuitSeed in
     let sk = ap (λ (o : MakeKeysOutcome). take (secretKeyLength P) (o .secretKey)) done
-    ∙ result-first (secretKey P circuitSeed secretSeed) skBefore (secretKeyLength P) (length-secretKey P circuitSeed secretSeed f) (right .secretKey) in
+    ∙ take-over (secretKey P circuitSeed secretSeed) skBefore (secretKeyLength P) (length-secretKey P circuitSeed secretSeed f) (right .secretKey) in
     let pk = ap (λ (o : MakeKeysOutcome). take (publicKeyLength P) (o .publicKey)) done
-    ∙ result-first (publicKey P circuitSeed secretSeed) pkBefore (publicKeyLength P) (length-publicKey P circuitSeed secretSeed f) (right .publicKey) in
+    ∙ take-over (publicKey P circuitSeed secretSeed) pkBefore (publicKeyLength P) (length-publicKey P circuitSeed secretSeed f) (right .publicKey) in
     record {
       size = ap length sk ∙ length-secretKey P circuitSeed secretSeed f;
       consistent = ap (consistentKey P) sk ∙ made-key-consistent P circuitSeed secretSeed f;

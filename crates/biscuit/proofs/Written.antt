@@ -26,7 +26,7 @@ pub record SizedOpening (P : Params) (o : Opening) : Type 0 where
   pub α-elements : Elements (o .α)
 
 -- a signature whose parts have their sizes
-pub record Sized (P : Params) (σ : Signature) : Type 0 where
+pub record SizedSignature (P : Params) (σ : Signature) : Type 0 where
   pub salt : length (σ .salt) ≡ 2 * S P
   pub h₁ : length (σ .h₁) ≡ 2 * S P
   pub h₂ : length (σ .h₂) ≡ 2 * S P
@@ -38,21 +38,27 @@ length-shown P o z =
     length-append (flatten (o .path)) (o .commitment)
     ∙ ap₂ (λ (a b : ℕ). a + b) (length-flatten (z .seeds) ∙ ap (λ (k : ℕ). k * S P) (z .levels)) (z .commitment)
 
-module _ (P : Params) (σ : Signature) (z : Sized P σ) where
+-- the vectors, where those of each repetition have their sizes
+module _ (P : Params) (σ : Signature) (pair : (e : ℕ) → 1 ≤ e → e ≤ P .tau → length (σ .opening e .Δs ++ σ .opening e .Δc) ≡ P .n + P .m)
+    (alpha : (e : ℕ) → 1 ≤ e → e ≤ P .tau → length (σ .opening e .α) ≡ P .m) where
+  pub all-pairs : length (repeated (P .tau) (λ e. σ .opening e .Δs ++ σ .opening e .Δc)) ≡ P .tau * (P .n + P .m)
+  all-pairs = length-repeated (P .tau) _ (P .n + P .m) pair
+
+  pub all-vectors : length (vectors P σ) ≡ vectorCount P
+  unfolding vectors vectorCount
+  all-vectors =
+      length-append (repeated (P .tau) (λ e. σ .opening e .Δs ++ σ .opening e .Δc)) (repeated (P .tau) (λ e. σ .opening e .α))
+      ∙ ap₂ (λ (x y : ℕ). x + y) all-pairs (length-repeated (P .tau) _ (P .m) alpha)
+
+module _ (P : Params) (σ : Signature) (z : SizedSignature P σ) where
   pub length-pair : (e : ℕ) → 1 ≤ e → e ≤ P .tau → length (σ .opening e .Δs ++ σ .opening e .Δc) ≡ P .n + P .m
   length-pair e a b = length-append (σ .opening e .Δs) (σ .opening e .Δc) ∙ ap₂ (λ (x y : ℕ). x + y) (z .opening e a b .Δs) (z .opening e a b .Δc)
 
   pub length-pairs : length (repeated (P .tau) (λ e. σ .opening e .Δs ++ σ .opening e .Δc)) ≡ P .tau * (P .n + P .m)
-  length-pairs = length-repeated (P .tau) _ (P .n + P .m) length-pair
-
-  pub length-alphas : length (repeated (P .tau) (λ e. σ .opening e .α)) ≡ P .tau * P .m
-  length-alphas = length-repeated (P .tau) _ (P .m) (λ e a b. z .opening e a b .α)
+  length-pairs = all-pairs P σ length-pair (λ e a b. z .opening e a b .α)
 
   pub length-vectors : length (vectors P σ) ≡ vectorCount P
-  unfolding vectors vectorCount
-  length-vectors =
-      length-append (repeated (P .tau) (λ e. σ .opening e .Δs ++ σ .opening e .Δc)) (repeated (P .tau) (λ e. σ .opening e .α))
-      ∙ ap₂ (λ (x y : ℕ). x + y) length-pairs length-alphas
+  length-vectors = all-vectors P σ length-pair (λ e a b. z .opening e a b .α)
 
   pub vectors-elements : Elements (vectors P σ)
   unfolding vectors

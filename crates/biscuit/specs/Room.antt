@@ -1,11 +1,14 @@
 -- Where a call keeps what in its work buffer, and the bounds on the parameters that the routines lean on. Offsets are formulas over the parameters: the circuit comes first, then
 -- the leaves of one repetition, the room of its groups of sixteen parties, the roots and the challenges of all repetitions. Assumes nothing.
 use mathlib.Core.Path.{_≡_}
+use mathlib.Core.List.{List}
 use Prim.Native.Nat.{ℕ, _+_, _-_, _*_, _%_, _^_, _≤_}
+use lib.ListN.{take, drop}
 use Rattle.field.specs.Packing.{packedLength}
 use Rattle.sets.specs.Sets.{S, N}
 use Rattle.sets.specs.declared.Params.{Params}
 use Rattle.forms.specs.Room.{circuitLength}
+use Rattle.refusals.specs.Refusals.{workLength}
 use Rattle.biscuit.specs.declared.Layout.{Layout}
 use Rattle.biscuit.specs.Signature.{vectorCount}
 
@@ -33,6 +36,10 @@ challengesAt P = rootsAt P + P .tau * S P
 unfoldable pub roomEnd : Params → ℕ
 roomEnd P = challengesAt P + P .tau * packedLength (P .m)
 
+-- the root of repetition e, S bytes for each repetition
+unfoldable pub rootIn : ℕ → List ℕ → ℕ → List ℕ
+rootIn S roots e = take S (drop ((e - 1) * S) roots)
+
 -- the bounds within which the routines work; every set keeps them
 pub record Fits (P : Params) : Type 0 where
   pub variables : P .n ≤ 118
@@ -44,7 +51,7 @@ pub record Fits (P : Params) : Type 0 where
   pub sixteen : 4 ≤ P .l
   pub levels : P .l ≤ 8
   pub parties : N P ≡ 16 * groups P
-  pub enough : roomEnd P ≤ 65536
+  pub enough : roomEnd P ≤ workLength
   pub even : vectorCount P % 2 ≡ 0
 
 -- the places, as numbers

@@ -1,9 +1,13 @@
 // The map of the work buffer, and where the packing of a signature begins. What the calls promise stands in specs/, and why every signature is accepted in proofs/.
+use sets::MOST_EQUATIONS;
+use sets::MOST_VARIABLES;
 use sets::Params;
 ghost use mathlib.Core.Path.{_≡_};
-ghost use Prim.Native.Nat.{_≤_};
 ghost use Rattle.biscuit.specs.Room.{Fits, LayoutOf, groups};
 ghost use Rattle.biscuit.specs.Signature.{packingAt};
+
+// The most elements that a repetition is worked from: Δs, Δc, the challenge, t and a given α.
+pub const VALUES: usize = MOST_VARIABLES + 4 * MOST_EQUATIONS;
 
 // Where the parts of work begin behind the circuit, and where the last ends.
 pub struct Layout {

@@ -17,7 +17,8 @@ use Rattle.biscuit.specs.Verify.{accepts}
 use Rattle.biscuit.specs.Room.{Fits}
 use Rattle.biscuit.proofs.Outcomes.{make-keys-done, public-half-done, public-half-inconsistent, sign-done, sign-inconsistent, verify-genuine, verify-not-accepted}
 use Rattle.refusals.proofs.Refusals.{MakeKeysRight, PublicHalfRight, SignRight, VerifyRight}
-use Rattle.calls.proofs.Lending.{known-fits, length-lent}
+use Rattle.biscuit.proofs.Parts.{length-first}
+use Rattle.calls.proofs.Lending.{known-fits}
 
 -- ---- make keys
 
@@ -29,9 +30,9 @@ module _ (set : ℕ) (p : Params) (param : p ≡ paramsOf set) (cs ss sk pk work
     known-fits set p param (r .known),
     r .circuitSeed ∙ ap S (sym param),
     r .secretSeed ∙ ap S (sym param),
-    length-lent sk a (let h = r .secretKey in omega arith) ∙ ea ∙ ap secretKeyLength (sym param),
-    length-lent pk b (let h = r .publicKey in omega arith) ∙ eb ∙ ap publicKeyLength (sym param),
-    length-lent work n (let h = r .work in omega arith) ∙ en,
+    length-first sk a (let h = r .secretKey in omega arith) ∙ ea ∙ ap secretKeyLength (sym param),
+    length-first pk b (let h = r .publicKey in omega arith) ∙ eb ∙ ap publicKeyLength (sym param),
+    length-first work n (let h = r .work in omega arith) ∙ en,
   )
 
   pub make-keys-ended : makeKeysSizes set (length cs) (length ss) (length sk) (length pk) (length work) ≡ 0
@@ -52,8 +53,8 @@ module _ (set : ℕ) (p : Params) (param : p ≡ paramsOf set) (sk pk work : Lis
   public-half-asked r b n eb en = (
     known-fits set p param (r .known),
     r .secretKey ∙ ap secretKeyLength (sym param),
-    length-lent pk b (let h = r .publicKey in omega arith) ∙ eb ∙ ap publicKeyLength (sym param),
-    length-lent work n (let h = r .work in omega arith) ∙ en,
+    length-first pk b (let h = r .publicKey in omega arith) ∙ eb ∙ ap publicKeyLength (sym param),
+    length-first work n (let h = r .work in omega arith) ∙ en,
   )
 
   -- the number and the output follow from whether the key is consistent
@@ -79,8 +80,8 @@ module _ (set : ℕ) (p : Params) (param : p ≡ paramsOf set) (sk msg rnd sig w
   sign-asked r a n ea en = (
     known-fits set p param (r .known),
     r .secretKey ∙ ap secretKeyLength (sym param),
-    length-lent sig a (let h = r .signature in omega arith) ∙ ea ∙ ap signatureLength (sym param),
-    length-lent work n (let h = r .work in omega arith) ∙ en,
+    length-first sig a (let h = r .signature in omega arith) ∙ ea ∙ ap signatureLength (sym param),
+    length-first work n (let h = r .work in omega arith) ∙ en,
   )
 
   -- the number and the output follow from whether the key is consistent
@@ -107,7 +108,7 @@ module _ (set : ℕ) (p : Params) (param : p ≡ paramsOf set) (pk msg sig work 
     known-fits set p param (r .known),
     r .publicKey ∙ ap publicKeyLength (sym param),
     r .signature ∙ ap signatureLength (sym param),
-    length-lent work n (let h = r .work in omega arith) ∙ en,
+    length-first work n (let h = r .work in omega arith) ∙ en,
   )
 
   -- the number follows from whether the signature is accepted

@@ -6,8 +6,8 @@ use mathlib.Core.List.{List, _++_}
 use Prim.Native.Nat.{ℕ, _-_, _≤_}
 use native.Mathlib.Nat.{sub-zero}
 use native.Mathlib.Omega.{arith}
-use lib.ListN.{length, take, drop, replicate, length-append, length-drop, take-append-drop}
-use lib.Seq.{drop-at, length-take-le}
+use lib.ListN.{length, take, drop, replicate, take-append-drop}
+use lib.Seq.{drop-at}
 use Rattle.memory.specs.Lists.{over}
 use Rattle.memory.proofs.Parts.{over-fits}
 use Rattle.sets.specs.Sets.{paramsOf}
@@ -15,6 +15,7 @@ use Rattle.sets.specs.declared.Params.{Params}
 use Rattle.refusals.specs.Refusals.{workLength, cleared}
 use Rattle.biscuit.specs.Room.{Fits}
 use Rattle.refusals.proofs.Refusals.{KnownSet}
+use Rattle.biscuit.proofs.Parts.{length-first, length-first-back}
 use Rattle.biscuit.proofs.Room.{fits}
 
 -- ---- a set's parameters
@@ -25,17 +26,13 @@ known-fits set p e k = subst Fits (sym e) (fits set (k .from) (k .to))
 
 -- ---- an output
 
--- k bytes are lent
-pub length-lent : (old : List ℕ) (k : ℕ) → k ≤ length old → length (take (k - 0) old) ≡ k
-length-lent old k h = ap (λ (i : ℕ). length (take i old)) (sub-zero k) ∙ length-take-le k old h
-
--- they come back as new: new is written over the whole
+-- k bytes are lent and come back as new: new is written over the whole
 pub lent-over : (old new : List ℕ) (k : ℕ) → k ≤ length old → length new ≡ length (take (k - 0) old) → new ++ drop (k - 0) old ≡ over new old
 lent-over old new k h e =
     ap (λ (i : ℕ). new ++ drop i old) (sub-zero k ∙ sym size) ∙ sym (over-fits new old (let s = size in omega arith))
   where
     size : length new ≡ k
-    size = e ∙ length-lent old k h
+    size = e ∙ length-first old k h
 
 -- they come back as they were
 pub lent-kept : (old new : List ℕ) (k : ℕ) → new ≡ take (k - 0) old → new ++ drop (k - 0) old ≡ old
@@ -55,20 +52,17 @@ module _ (work u : List ℕ) (n : ℕ) (e : n ≡ workLength) (h : workLength �
 
   -- work whose first bytes were lent and came back as u is as long as before
   pub work-long : length u ≡ length (take (n - 0) work) → workLength ≤ length (u ++ drop (n - 0) work)
-  work-long l =
-      let size = l ∙ length-lent work n inside in
-      let zero = sub-zero n in
-      simp (length-append, length-drop) (omega arith)
+  work-long l = let same = length-first-back work u n inside l in omega arith
 
   -- cleared, it holds nothing of u
   pub cleared-lent : length u ≡ length (take (n - 0) work) → cleared (u ++ drop (n - 0) work) ≡ cleared work
   unfolding cleared
   cleared-lent l =
       ap (λ (x : List ℕ). replicate workLength 0 ++ x)
-      (drop-at u (drop (n - 0) work) workLength (l ∙ length-lent work n inside ∙ e) ∙ ap (λ (i : ℕ). drop i work) (sub-zero n ∙ e))
+      (drop-at u (drop (n - 0) work) workLength (l ∙ length-first work n inside ∙ e) ∙ ap (λ (i : ℕ). drop i work) (sub-zero n ∙ e))
 
   -- its first bytes lent and set to 0
   pub work-cleared : u ≡ replicate (length (take (n - 0) work)) 0 → u ++ drop (n - 0) work ≡ cleared work
   unfolding cleared
   work-cleared l =
-      ap₂ (λ (x y : List ℕ). x ++ y) (l ∙ ap (λ (i : ℕ). replicate i 0) (length-lent work n inside ∙ e)) (ap (λ (i : ℕ). drop i work) (sub-zero n ∙ e))
+      ap₂ (λ (x y : List ℕ). x ++ y) (l ∙ ap (λ (i : ℕ). replicate i 0) (length-first work n inside ∙ e)) (ap (λ (i : ℕ). drop i work) (sub-zero n ∙ e))

@@ -1,2 +1,4 @@
 pub mod Ended
+pub mod EverySignature
 pub mod Lending
+pub mod OneOutcome

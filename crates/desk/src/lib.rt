@@ -1,4 +1,6 @@
 // The calls of the signing desk for programs in C: each slice is a pointer and a length, the answer a number of document 01's table. Nothing is decided here.
+mod clips;
+
 ghost use mathlib.Core.Path.{_≡_};
 ghost use Rattle.biscuit.specs.Desk.{makeKeysEnded, makeKeysOutcome, publicHalfEnded, publicHalfOutcome, signEnded, signOutcome, verifyEnded, verifyOutcome};
 

@@ -1,5 +1,6 @@
 pub mod Comparisons
 pub mod Laws
+pub mod OneOutcome
 pub mod PackedSums
 pub mod Packing
 pub mod ProductTable

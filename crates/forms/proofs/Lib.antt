@@ -1,6 +1,7 @@
 pub mod Added
 pub mod Circuit
 pub mod Evaluated
+pub mod OneOutcome
 pub mod Room
 pub mod Sampling
 pub mod Shares

@@ -4,3 +4,4 @@ pub mod Laws
 pub mod Inverse
 pub mod Turned
 pub mod Steps
+pub mod OneOutcome

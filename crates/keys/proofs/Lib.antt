@@ -1,2 +1,3 @@
 pub mod Made
+pub mod OneOutcome
 pub mod Read

@@ -23,15 +23,16 @@ use Rattle.forms.specs.Sampling.{sampleElements, expandElements}
 use Rattle.forms.proofs.Room.{sample-part, expanded-circuit}
 use Rattle.refusals.specs.Refusals.{workLength}
 use Rattle.biscuit.specs.Keys.{circuit, secretOf, keyGen, secretBytes, publicBytes, publicOf, secretKey, publicKey}
-use Rattle.biscuit.specs.Room.{leavesAt, roomAt, rootsAt, challengesAt, roomEnd, Fits}
+use Rattle.biscuit.specs.Room.{leavesAt, Fits}
+use Rattle.biscuit.proofs.Room.{mapped}
 use Rattle.keys.specs.Values.{KeyValues}
 
 -- ---- room
 
 -- the circuit has room in the work
 pub circuit-room : (P : Params) → Fits P → circuitLength (P .n) (P .m) ≤ workLength
-unfolding workLength leavesAt roomAt rootsAt challengesAt roomEnd
-circuit-room P f = let e = f .enough in omega arith
+unfolding leavesAt
+circuit-room P f = let m = mapped P in let enough = f .enough in omega arith
 
 -- ---- values
 

@@ -10,7 +10,6 @@ use lib.ListN.{length, take, drop, length-drop}
 use lib.Seq.{take-all, length-take-le}
 use Rattle.memory.specs.Lists.{same}
 use Rattle.field.specs.Packing.{pack, packedLength, unpack}
-use Rattle.field.proofs.Packing.{length-unpack}
 use Rattle.sponge.specs.Sponge.{shake256}
 use Rattle.sets.specs.Sets.{S, secretKeyLength, publicKeyLength}
 use Rattle.sets.specs.declared.Params.{Params}
@@ -18,6 +17,7 @@ use Rattle.forms.specs.Circuit.{Circuit, Evaluation, expandCircuit, evalCircuit
 use Rattle.forms.specs.Room.{circuitLength, HoldsCircuit}
 use Rattle.forms.proofs.Room.{expanded-circuit}
 use Rattle.biscuit.specs.Keys.{circuit, packedSecret, secretKeyOf, consistent, consistentKey, publicBytes, publicOf, publicHalf}
+use Rattle.biscuit.proofs.Keys.{length-packed}
 
 -- ---- elements
 
@@ -26,14 +26,10 @@ pub seed-inside : (P : Params) (sk : List ℕ) → length sk ≡ secretKeyLength
 unfolding secretKeyLength S
 seed-inside P sk h = omega arith
 
-pub secret-read : (P : Params) (sk : List ℕ) (n : ℕ) → n ≡ P .n + P .m + P .m
+pub elements-read : (P : Params) (sk : List ℕ) (n : ℕ) → n ≡ P .n + P .m + P .m
     → unpack n (take (length sk - P .bits / 8) (drop (P .bits / 8) sk)) ≡ packedSecret P sk
 unfolding packedSecret S
-secret-read P sk n e = ap₂ unpack e (take-all (length sk - P .bits / 8) (drop (P .bits / 8) sk) (simp length-drop (omega arith)))
-
-pub length-packed : (P : Params) (sk : List ℕ) → length (packedSecret P sk) ≡ P .n + P .m + P .m
-unfolding packedSecret
-length-packed P sk = length-unpack (P .n + P .m + P .m) (drop (S P) sk)
+elements-read P sk n e = ap₂ unpack e (take-all (length sk - P .bits / 8) (drop (P .bits / 8) sk) (simp length-drop (omega arith)))
 
 -- ---- consistent
 

@@ -1,5 +1,7 @@
 // Keys: made from two seeds (algorithm 11 of the submission), read from their bytes, held to their own circuit, and the public half of a secret key.
 // No element of a secret chooses a branch. The product alone reads its table at a place that its operands give; whether a key is consistent is told, and nothing else of it.
+use sets::MOST_EQUATIONS;
+use sets::MOST_VARIABLES;
 use sets::Params;
 ghost use mathlib.Core.Path.{_≡_};
 ghost use mathlib.Core.Bool.{_&&_, cond};
@@ -18,15 +20,11 @@ ghost use Rattle.biscuit.specs.Keys.{secretKey, publicKey, packedSecret, consis
 ghost use Rattle.biscuit.specs.Room.{Fits};
 ghost use Rattle.keys.specs.Values.{KeyValues};
 
-// The most variables and equations of a set.
-const VARIABLES: usize = 118;
+// The most bytes of a packed s.
+const PACKED: usize = (MOST_VARIABLES + 1) / 2;
 
-const EQUATIONS: usize = 121;
-
-// The most bytes of a packed s, and the most elements of s, t and y together.
-const PACKED: usize = 59;
-
-const SECRET: usize = 360;
+// The most elements of a secret key: s, t and y.
+pub const SECRET: usize = MOST_VARIABLES + 2 * MOST_EQUATIONS;
 
 // Algorithm 11: fills `sk` and `pk` with the keys of two seeds. `work` may hold anything afterwards.
 pub fn make_keys(
@@ -42,9 +40,9 @@ pub fn make_keys(
 {
     let n = p.n;
     let m = p.m;
-    let mut s = [0u8; VARIABLES];
-    let mut t = [0u8; EQUATIONS];
-    let mut y = [0u8; EQUATIONS];
+    let mut s = [0u8; MOST_VARIABLES];
+    let mut t = [0u8; MOST_EQUATIONS];
+    let mut y = [0u8; MOST_EQUATIONS];
     make_in(
         p,
         circuit_seed,
@@ -171,8 +169,8 @@ pub fn consistent(p: Params, sk: &[u8], secret: &mut [u8], circuit: &mut [u8]) -
 {
     let a = p.bits / 8;
     let m = p.m;
-    let mut t = [0u8; EQUATIONS];
-    let mut y = [0u8; EQUATIONS];
+    let mut t = [0u8; MOST_EQUATIONS];
+    let mut y = [0u8; MOST_EQUATIONS];
     read_secret(p, sk, secret);
     forms::tape_bytes(&sk[0..a], circuit);
     values_agree(p, secret, circuit, &mut t[0..m], &mut y[0..m])

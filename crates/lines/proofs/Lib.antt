@@ -1,2 +1,3 @@
+pub mod OneOutcome
 pub mod Rule
 pub mod Small

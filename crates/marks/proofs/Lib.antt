@@ -1,3 +1,4 @@
 pub mod Marks
 pub mod Sums
 pub mod Stored
+pub mod OneOutcome

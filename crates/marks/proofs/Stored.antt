@@ -4,13 +4,13 @@ use mathlib.Core.Path.{_≡_, sym, ap, subst, _∙_}
 use Prim.Native.Nat.{ℕ, _+_, _*_, _≤_, _<_}
 use native.Mathlib.Decide.{decLt}
 use native.Mathlib.Omega.{arith}
-use lib.ListN.{length, getD}
+use lib.ListN.{length, getD, drop}
 use Rattle.memory.specs.Lists.{put}
-use Rattle.memory.proofs.Parts.{length-put}
 use Rattle.field.specs.Packing.{nib}
 use Rattle.lanes.specs.Lanes.{lane, wordBytes}
 use Rattle.lanes.proofs.Bytes.{nib-put-before, nib-put-word, length-wordBytes}
-use Rattle.marks.specs.Marks.{HoldsWords}
+use Rattle.lanes.proofs.Windows.{put-behind}
+use Rattle.marks.specs.Marks.{HoldsWords, WordsStored}
 
 -- the first n words are written
 unfoldable pub StoredTo : ℕ → List ℕ → List ℕ → Type 0
@@ -19,9 +19,6 @@ StoredTo n words bytes = (k q : ℕ) → k < n → q < 16 → nib bytes (16 * k 
 pub stored-none : (words bytes : List ℕ) → StoredTo 0 words bytes
 unfolding StoredTo
 stored-none words bytes k q h l = absurd (omega arith)
-
-pub length-put-word : (bytes : List ℕ) (at w : ℕ) → at + 8 ≤ length bytes → length (put bytes at (wordBytes w)) ≡ length bytes
-length-put-word bytes at w h = let e = length-wordBytes w in length-put bytes at (wordBytes w) (omega arith)
 
 -- one word more
 pub stored-more : (words bytes new : List ℕ) (n : ℕ) → 8 * n + 8 ≤ length bytes → new ≡ put bytes (8 * n) (wordBytes (getD words n 0)) → StoredTo n words bytes → StoredTo (n + 1) words new
@@ -35,6 +32,12 @@ stored-more words bytes new n room e s k q h l =
           ap (nib (put bytes (8 * n) (wordBytes (getD words n 0)))) j ∙ nib-put-word bytes (8 * n) (getD words n 0) q room l ∙ ap (λ (x : ℕ). lane q (getD words x 0)) (sym i))
     ]
 
-pub stored-all : (words bytes : List ℕ) (n : ℕ) → length words ≤ n → StoredTo n words bytes → HoldsWords words bytes
+-- what lies behind all words is not touched
+pub behind-more : (words old bytes new : List ℕ) (n : ℕ) → n < length words → 8 * length words ≤ length bytes → new ≡ put bytes (8 * n) (wordBytes (getD words n 0))
+    → drop (8 * length words) bytes ≡ drop (8 * length words) old → drop (8 * length words) new ≡ drop (8 * length words) old
+behind-more words old bytes new n h room e s =
+    ap (drop (8 * length words)) e ∙ put-behind bytes (8 * n) (8 * length words) (getD words n 0) (omega arith) (omega arith) ∙ s
+
+pub stored-all : (words old bytes : List ℕ) (n : ℕ) → length words ≤ n → StoredTo n words bytes → drop (8 * length words) bytes ≡ drop (8 * length words) old → WordsStored words old bytes
 unfolding StoredTo HoldsWords
-stored-all words bytes n h s k q l g = s k q (omega arith) g
+stored-all words old bytes n h s r = record { elements = λ k q l g. s k q (omega arith) g; rest = r }

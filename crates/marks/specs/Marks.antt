@@ -6,7 +6,7 @@ use mathlib.Core.Path.{_≡_}
 use Prim.Native.Nat.{ℕ, zero, suc, _+_, _-_, _*_, _<_}
 use lib.Bits.{bitXor}
 use lib.Dec.{eqb}
-use lib.ListN.{length, getD}
+use lib.ListN.{length, getD, drop}
 use Rattle.field.specs.Field.{mul}
 use Rattle.field.specs.Packing.{nib}
 use Rattle.field.specs.Vectors.{_!_}
@@ -55,6 +55,11 @@ Cleared mark old new = EachWord (λ k x y. ClearedWord mark x y) old new
 -- the bytes hold the elements of the words, sixteen to a word
 unfoldable pub HoldsWords : List ℕ → List ℕ → Type 0
 HoldsWords words bytes = (k q : ℕ) → k < length words → q < 16 → nib bytes (16 * k + q) ≡ lane q (getD words k 0)
+
+-- the words are stored over the start of the bytes, and what lies behind them is kept
+pub record WordsStored (words before after : List ℕ) : Type 0 where
+  pub elements : HoldsWords words after
+  pub rest : drop (8 * length words) after ≡ drop (8 * length words) before
 
 -- 15 in every lane but the marked ones
 unfoldable pub keeping : ℕ → ℕ

@@ -6,7 +6,7 @@ ghost use lib.ListN.{length};
 ghost use Rattle.field.specs.Packing.{Elements};
 ghost use Rattle.field.specs.Vectors.{_!_};
 ghost use Rattle.lanes.specs.Lanes.{WordAt, wordBytes};
-ghost use Rattle.marks.specs.Marks.{Flags, Mark, Marked, MarkedBytes, Multiplied, Cleared, EachWord, keeping, HoldsWords, laneSum};
+ghost use Rattle.marks.specs.Marks.{Flags, Mark, Marked, MarkedBytes, Multiplied, Cleared, EachWord, keeping, WordsStored, laneSum};
 
 // A word with 15 in every lane.
 const FULL: u64 = 0xffffffffffffffff;
@@ -115,10 +115,10 @@ pub fn load_words(bytes: &[u8], words: &mut [u64])
     }
 }
 
-// Writes the sixteen elements of each word to the bytes, word after word.
+// Writes the sixteen elements of each word to the bytes, word after word; later bytes are kept.
 pub fn store_words(words: &[u64], bytes: &mut [u8])
     requires { ⌜ 8 * length (now words) ≤ length (now bytes) ⌝ }
-    ensures { λ r. ⌜ HoldsWords (now (words .entry)) (now (bytes .exit)) ⌝ }
+    ensures { λ r. ⌜ WordsStored (now (words .entry)) (now (bytes .entry)) (now (bytes .exit)) ⌝ }
 {
     let mut k = 0;
     while k < words.len() {

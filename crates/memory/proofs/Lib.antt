@@ -6,6 +6,7 @@ pub mod Digits
 pub mod Every
 pub mod Groups
 pub mod Lists
+pub mod OneOutcome
 pub mod Parts
 pub mod Sections
 pub mod Stands

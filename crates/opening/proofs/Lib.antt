@@ -1,3 +1,4 @@
 pub mod Showing
 pub mod Turning
 pub mod Signed
+pub mod OneOutcome

@@ -12,11 +12,12 @@ use Rattle.tree.specs.Tree.{children, getPath}
 use Rattle.forms.specs.Room.{hiddenIn}
 use Rattle.parties.specs.Repetition as repetition
 use Rattle.parties.proofs.Numbered.{getD-parties}
+use Rattle.biscuit.specs.Room.{rootIn}
 use Rattle.biscuit.specs.Sign.{Signer, seeds, coms, hidden, opening, signed}
 use Rattle.biscuit.specs.Signature.{repeated, shown}
 use Rattle.biscuit.proofs.Repeated.{repeated-same}
 use Rattle.biscuit.proofs.SignSized.{length-seeds, hidden-index}
-use Rattle.opening.specs.Shown.{leafUnder, shownUnder, rootOf, leafOf, shownOf}
+use Rattle.opening.specs.Shown.{leafUnder, shownUnder, leafOf, shownOf}
 
 module _ (P : Params) (signer : Signer) (msg bytes roots : List ℕ) where
   -- party h commits to its own seed
@@ -29,7 +30,7 @@ module _ (P : Params) (signer : Signer) (msg bytes roots : List ℕ) where
       ap (λ (k : ℕ). commit (S P) (signer .salt) e k (getD (seeds P signer e) (h - 1) [])) (let t : h ≡ suc (h - 1) = omega arith in t)
       ∙ sym (getD-parties (repetition.comOf P (signer .salt) e) (seeds P signer e) (h - 1) [] [] (omega arith))
 
-  module _ (e : ℕ) (root : rootOf P roots e ≡ signer .root e) (same : hiddenIn (P .l) bytes e ≡ hidden P signer msg e) where
+  module _ (e : ℕ) (root : rootIn (S P) roots e ≡ signer .root e) (same : hiddenIn (P .l) bytes e ≡ hidden P signer msg e) where
     -- the hidden party's leaf
     pub leaf-signed : leafOf P (signer .salt) bytes roots e ≡ getD (seeds P signer e) (hidden P signer msg e - 1) []
     unfolding leafOf leafUnder seeds
@@ -43,13 +44,8 @@ module _ (P : Params) (signer : Signer) (msg bytes roots : List ℕ) where
         ap₂ (λ (r : List ℕ) (h : ℕ). shownUnder (S P) (signer .salt) e (P .l) r h) root same
         ∙ ap (λ (c : List ℕ). flatten (getPath (children (S P) (signer .salt) e) (P .l) (signer .root e) (hidden P signer msg e)) ++ c) (own-commitment e (hidden P signer msg e) from refl)
 
-  module _ (root : (e : ℕ) → 1 ≤ e → e ≤ P .tau → rootOf P roots e ≡ signer .root e) (same : (e : ℕ) → 1 ≤ e → e ≤ P .tau → hiddenIn (P .l) bytes e ≡ hidden P signer msg e) where
+  module _ (root : (e : ℕ) → 1 ≤ e → e ≤ P .tau → rootIn (S P) roots e ≡ signer .root e) (same : (e : ℕ) → 1 ≤ e → e ≤ P .tau → hiddenIn (P .l) bytes e ≡ hidden P signer msg e) where
     -- of all repetitions
-    pub all-leaves-signed : repeated (P .tau) (leafOf P (signer .salt) bytes roots) ≡ repeated (P .tau) (λ e. getD (seeds P signer e) (hidden P signer msg e - 1) [])
-    all-leaves-signed =
-        repeated-same (P .tau) (leafOf P (signer .salt) bytes roots) (λ e. getD (seeds P signer e) (hidden P signer msg e - 1) [])
-        (λ e a b. leaf-signed e (root e a b) (same e a b))
-
     pub all-shown-signed : repeated (P .tau) (shownOf P (signer .salt) bytes roots) ≡ repeated (P .tau) (λ e. shown (signed P signer msg .opening e))
     unfolding signed
     all-shown-signed =

@@ -1,18 +1,15 @@
 -- Repetition by repetition: the sections written so far stand in front, and one more follows.
 -- Assumes nothing.
-use mathlib.Core.Path.{_≡_, refl, sym, ap, ap₂, _∙_}
+use mathlib.Core.Path.{_≡_, sym, ap, ap₂, _∙_}
 use mathlib.Core.List.{List, _++_, append-nil}
-use Prim.Native.Nat.{ℕ, _+_, _-_, _*_, _^_, _≤_, _<_}
-use native.Mathlib.Nat.{mod-lt, zero-mul, suc-mul}
+use Prim.Native.Nat.{ℕ, _+_, _-_, _*_, _≤_, _<_}
+use native.Mathlib.Nat.{zero-mul, suc-mul}
 use native.Mathlib.Numerals.{add-one}
 use native.Mathlib.Omega.{arith}
-use lib.ListN.{length, getD, take, drop, drop-of-length-le}
-use lib.Pow.{pow-pos}
+use lib.ListN.{length, take, drop, drop-of-length-le}
 use lib.Seq.{drop-at}
 use Rattle.memory.specs.Lists.{put}
-use Rattle.memory.proofs.Lists.{room}
 use Rattle.memory.proofs.Parts.{put-section}
-use Rattle.memory.proofs.Xors.{length-part}
 use Rattle.sets.specs.Sets.{S}
 use Rattle.sets.specs.declared.Params.{Params}
 use Rattle.tree.specs.Tree.{children}
@@ -20,20 +17,12 @@ use Rattle.tree.proofs.Laying.{each-getSeeds}
 use Rattle.tree.proofs.Theorems.{length-getSeeds}
 use Rattle.forms.specs.Room.{hiddenIn}
 use Rattle.parties.proofs.Sizes.{length-entry}
+use Rattle.biscuit.specs.Room.{rootIn}
 use Rattle.biscuit.specs.Signature.{repeated}
-use Rattle.biscuit.proofs.Repeated.{length-repeated, repeated-suc}
-use Rattle.opening.specs.Shown.{leafUnder, shownUnder, rootOf, leafOf, shownOf}
+use Rattle.biscuit.proofs.Repeated.{length-repeated, repeated-more}
+use Rattle.biscuit.proofs.Room.{length-rootIn, hidden-from-one, hidden-within}
+use Rattle.opening.specs.Shown.{leafUnder, shownUnder, leafOf, shownOf}
 use Rattle.opening.proofs.Showing.{length-shownUnder}
-
--- ---- the hidden party is one of the 2^l
-
-pub hidden-first : (l : ℕ) (bytes : List ℕ) (e h : ℕ) → h ≡ hiddenIn l bytes e → 1 ≤ h
-unfolding hiddenIn
-hidden-first l bytes e h same = omega arith
-
-pub hidden-last : (l : ℕ) (bytes : List ℕ) (e h : ℕ) → h ≡ hiddenIn l bytes e → h ≤ 2 ^ l
-unfolding hiddenIn
-hidden-last l bytes e h same = let m = mod-lt (getD bytes (e - 1) 0) (pow-pos l) in omega arith
 
 -- ---- sections of w bytes each, the first i of them written over the start of x
 
@@ -49,7 +38,7 @@ module _ (f : ℕ → List ℕ) (w : ℕ) (x : List ℕ) where
       ∙ ap₂ (λ (y z : List ℕ). put y (i * w) z) c o
       ∙ put-section (repeated i f) x (i * w) (f (i + 1)) n
       ∙ ap₂ (λ (y : List ℕ) (k : ℕ). y ++ drop k x)
-      (ap (λ (j : ℕ). repeated i f ++ f j) (add-one i) ∙ sym (repeated-suc i f) ∙ ap (λ (j : ℕ). repeated j f) (sym (add-one i)))
+      (repeated-more i f)
       (ap (λ (k : ℕ). i * w + k) m ∙ sym (suc-mul i w) ∙ ap (λ (j : ℕ). j * w) (sym (add-one i)))
 
   pub sections-whole : (i n : ℕ) (cur : List ℕ) → i ≡ n → length x ≡ n * w → cur ≡ repeated i f ++ drop (i * w) x → cur ≡ repeated n f
@@ -64,31 +53,27 @@ module _ (f : ℕ → List ℕ) (w : ℕ) (x : List ℕ) where
 module _ (P : Params) (salt hidden roots : List ℕ) where
   pub length-shownOf : (e : ℕ) → length (shownOf P salt hidden roots e) ≡ P .l * S P + 2 * S P
   unfolding shownOf
-  length-shownOf e = length-shownUnder (S P) salt e (P .l) (rootOf P roots e) (hiddenIn (P .l) hidden e)
+  length-shownOf e = length-shownUnder (S P) salt e (P .l) (rootIn (S P) roots e) (hiddenIn (P .l) hidden e)
 
   pub length-all-shown : (i : ℕ) → length (repeated i (shownOf P salt hidden roots)) ≡ i * (P .l * S P + 2 * S P)
   length-all-shown i = length-repeated i (shownOf P salt hidden roots) (P .l * S P + 2 * S P) (λ e a b. length-shownOf e)
 
   module _ (sized : length roots ≡ P .tau * S P) where
-    pub length-rootOf : (e : ℕ) → 1 ≤ e → e ≤ P .tau → length (rootOf P roots e) ≡ S P
-    unfolding rootOf
-    length-rootOf e a b = let r = room (e - 1) (P .tau) (S P) (omega arith) in length-part roots ((e - 1) * S P) (S P) (omega arith)
-
     pub length-leafOf : (e : ℕ) → 1 ≤ e → e ≤ P .tau → length (leafOf P salt hidden roots e) ≡ S P
     unfolding leafOf leafUnder
     length-leafOf e a b =
-        let n = length-getSeeds (children (S P) salt e) (P .l) (rootOf P roots e) in
-        let f = hidden-first (P .l) hidden e (hiddenIn (P .l) hidden e) refl in
-        let t = hidden-last (P .l) hidden e (hiddenIn (P .l) hidden e) refl in
-        length-entry (hiddenIn (P .l) hidden e - 1) (omega arith) (each-getSeeds (S P) salt e (P .l) (rootOf P roots e) (length-rootOf e a b))
+        let n = length-getSeeds (children (S P) salt e) (P .l) (rootIn (S P) roots e) in
+        let f = hidden-from-one (P .l) hidden e in
+        let t = hidden-within (P .l) hidden e in
+        length-entry (hiddenIn (P .l) hidden e - 1) (omega arith) (each-getSeeds (S P) salt e (P .l) (rootIn (S P) roots e) (length-rootIn (S P) roots e (P .tau) a b (omega arith)))
 
     pub length-all-leaves : (i : ℕ) → i ≤ P .tau → length (repeated i (leafOf P salt hidden roots)) ≡ i * S P
     length-all-leaves i h = length-repeated i (leafOf P salt hidden roots) (S P) (λ e a b. length-leafOf e a (omega arith))
 
     -- the next root still stands behind the leaves
     pub root-left : (i : ℕ) (cur : List ℕ) → i ≤ P .tau → cur ≡ repeated i (leafOf P salt hidden roots) ++ drop (i * S P) roots
-        → take (S P) (drop (i * S P) cur) ≡ rootOf P roots (i + 1)
-    unfolding rootOf
+        → take (S P) (drop (i * S P) cur) ≡ rootIn (S P) roots (i + 1)
+    unfolding rootIn
     root-left i cur h c =
         ap (λ (x : List ℕ). take (S P) (drop (i * S P) x)) c
         ∙ ap (take (S P)) (drop-at (repeated i (leafOf P salt hidden roots)) (drop (i * S P) roots) (i * S P) (length-all-leaves i h))

@@ -2,13 +2,14 @@
 -- to it, by the roots of all repetitions and a byte for each that gives the hidden party. Repetitions e count from 1.
 -- Assumes nothing.
 use mathlib.Core.List.{List, [], _++_, flatten}
-use Prim.Native.Nat.{ℕ, _-_, _*_}
-use lib.ListN.{getD, take, drop}
+use Prim.Native.Nat.{ℕ, _-_}
+use lib.ListN.{getD}
 use Rattle.sets.specs.Sets.{S}
 use Rattle.sets.specs.declared.Params.{Params}
 use Rattle.hashes.specs.Hashes.{commit}
 use Rattle.tree.specs.Tree.{children, getSeeds, getPath}
 use Rattle.forms.specs.Room.{hiddenIn}
+use Rattle.biscuit.specs.Room.{rootIn}
 
 -- ---- one repetition: S bytes to a seed, 2^L parties, of which h is hidden
 
@@ -22,14 +23,10 @@ shownUnder S salt e L root h = flatten (getPath (children S salt e) L root h) ++
 
 -- ---- all repetitions
 
--- the root of repetition e, S bytes for each repetition
-unfoldable pub rootOf : Params → List ℕ → ℕ → List ℕ
-rootOf P roots e = take (S P) (drop ((e - 1) * S P) roots)
-
 -- the hidden party's leaf in repetition e
 unfoldable pub leafOf : Params → List ℕ → List ℕ → List ℕ → ℕ → List ℕ
-leafOf P salt hidden roots e = leafUnder (S P) salt e (P .l) (rootOf P roots e) (hiddenIn (P .l) hidden e)
+leafOf P salt hidden roots e = leafUnder (S P) salt e (P .l) (rootIn (S P) roots e) (hiddenIn (P .l) hidden e)
 
 -- the path and the hidden party's commitment of repetition e
 unfoldable pub shownOf : Params → List ℕ → List ℕ → List ℕ → ℕ → List ℕ
-shownOf P salt hidden roots e = shownUnder (S P) salt e (P .l) (rootOf P roots e) (hiddenIn (P .l) hidden e)
+shownOf P salt hidden roots e = shownUnder (S P) salt e (P .l) (rootIn (S P) roots e) (hiddenIn (P .l) hidden e)

@@ -1,5 +1,6 @@
 // Phase 5 of signing, algorithm 12 lines 37 to 40, first half: the path and the hidden party's commitment of each repetition are written to the section of
 // the signature lent for them, and the hidden leaf takes the place of its root. No seed chooses a branch or an address; the hidden party does, and is public by then.
+use sets::LONGEST_SEED;
 use sets::Params;
 ghost use mathlib.Core.Path.{_≡_};
 ghost use Prim.Native.Nat.{_+_, _*_, _^_, _≤_, _<_};
@@ -9,9 +10,6 @@ ghost use Rattle.sets.specs.Sets.{S};
 ghost use Rattle.forms.specs.Room.{hiddenIn};
 ghost use Rattle.biscuit.specs.Signature.{repeated};
 ghost use Rattle.opening.specs.Shown.{leafUnder, shownUnder, leafOf, shownOf};
-
-// The bytes of the largest seed.
-const SEED: usize = 32;
 
 // Writes the path and the hidden party's commitment of each repetition to `out`, one behind the other, and the hidden leaf of each over its root. `hidden`
 // has a byte for each repetition.
@@ -49,7 +47,7 @@ fn show_one(salt: &[u8], e: usize, l: usize, h: usize, root: &mut [u8], out: &mu
     ensures shown { λ r. ⌜ now (out .exit) ≡ shownUnder (length (now (root .entry))) (now (salt .entry)) e l (now (root .entry)) h ⌝ }
     ensures leaf { λ r. ⌜ now (root .exit) ≡ leafUnder (length (now (root .entry))) (now (salt .entry)) e l (now (root .entry)) h ⌝ }
 {
-    let mut leaf = [0u8; SEED];
+    let mut leaf = [0u8; LONGEST_SEED];
     show_with(salt, e, l, h, &mut leaf, root, out);
 }
 

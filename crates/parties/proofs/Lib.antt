@@ -6,6 +6,7 @@ pub mod Honest
 pub mod KnownIsSigned
 pub mod Numbered
 pub mod OneChallenge
+pub mod OneOutcome
 pub mod OneRoutine
 pub mod OthersSum
 pub mod PathSeeds

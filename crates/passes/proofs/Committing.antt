@@ -3,11 +3,8 @@ use mathlib.Core.Path.{_≡_, refl, sym, ap, ap₂, subst, _∙_}
 use mathlib.Core.List.{List, _++_, flatten}
 use Prim.Native.Nat.{ℕ, _+_, _-_, _*_, _≤_, _<_}
 use native.Mathlib.Decide.{decLe}
-use native.Mathlib.Numerals.{add-one}
 use native.Mathlib.Omega.{arith}
-use lib.ListN.{length, take, drop, length-drop}
-use lib.Pow.{pow-pos}
-use lib.Seq.{length-take-le}
+use lib.ListN.{length, take, drop}
 use Rattle.memory.specs.Lists.{put}
 use Rattle.memory.specs.Sections.{pieces}
 use Rattle.field.specs.Packing.{Elements}
@@ -18,18 +15,17 @@ use Rattle.sets.specs.declared.Params.{Params}
 use Rattle.tree.specs.Tree.{children, getSeeds}
 use Rattle.parties.specs.Repetition as repetition
 use Rattle.parties.proofs.ShareElements.{deltaS-elements, deltaC-elements}
-use Rattle.forms.specs.Room.{circuitLength}
 use Rattle.views.specs.Views.{FirstPhase}
 use Rattle.answers.proofs.Absorbing.{Absorbing, absorbing-none, absorbing-more, absorbing-all}
+use Rattle.refusals.specs.Refusals.{workLength}
 use Rattle.biscuit.specs.Signature.{repeated}
 use Rattle.biscuit.specs.Sign.{Signer, seeds, coms, deltaS, deltaC, σ₁}
 use Rattle.biscuit.specs.Room.{Fits, LayoutOf, groups, leavesAt, rootsAt}
 use Rattle.biscuit.specs.declared.Layout.{Layout}
-use Rattle.biscuit.proofs.Repeated.{repeated-suc, take-elements}
-use Rattle.biscuit.proofs.Room.{few-groups}
+use Rattle.biscuit.proofs.Parts.{length-lent, length-first}
+use Rattle.biscuit.proofs.Repeated.{among, repeated-more, take-elements}
 use Rattle.vectors.specs.Elements.{elementsAt}
 use Rattle.passes.specs.Passes.{seedsIn, sIn, yIn, HoldsSecret, HoldsRoots, HoldsCorrections, Placed, Kept, Committed}
-use Rattle.passes.proofs.Bounds.{among}
 use Rattle.passes.proofs.Planting.{planted-part, pieces-seeds}
 use Rattle.passes.proofs.Placing.{elements-below}
 
@@ -49,20 +45,13 @@ kept-same P work now end e k = subst (λ (w : List ℕ). Kept P work w) (sym e) 
 
 -- ---- one repetition
 
-pub groups-few : (P : Params) → Fits P → groups P ≤ 16
-groups-few P f = few-groups P f (groups P) (circuitLength (P .n) (P .m)) refl refl
-
-pub some-groups : (P : Params) → Fits P → 1 ≤ groups P
-unfolding groups
-some-groups P f = pow-pos (P .l - 4)
-
 -- s and y, as the code lends them
 pub part-secret : (P : Params) (secret : List ℕ) → length secret ≡ P .n + P .m + P .m → length (take (P .n - 0) (drop 0 secret)) ≡ P .n
-part-secret P secret h = length-take-le (P .n - 0) secret (omega arith) ∙ (let z : P .n - 0 ≡ P .n = omega arith in z)
+part-secret P secret h = length-first secret (P .n) (omega arith)
 
 pub part-helper : (P : Params) (secret : List ℕ) → length secret ≡ P .n + P .m + P .m → length (take (P .n + P .m + P .m - (P .n + P .m)) (drop (P .n + P .m) secret)) ≡ P .m
 part-helper P secret h =
-    length-take-le (P .n + P .m + P .m - (P .n + P .m)) (drop (P .n + P .m) secret) (simp length-drop (omega arith))
+    length-lent secret (P .n + P .m) (P .n + P .m + P .m) (omega arith) (omega arith)
     ∙ (let z : P .n + P .m + P .m - (P .n + P .m) ≡ P .m = omega arith in z)
 
 s-part : (P : Params) (secret : List ℕ) → take (P .n - 0) (drop 0 secret) ≡ sIn P secret
@@ -102,7 +91,7 @@ committed-turn P salt e secret leaves g before after ds dc old new eg p q =
     }
 
 -- the leaves that were planted are the seeds
-module _ (P : Params) (f : Fits P) (salt : List ℕ) (work : List ℕ) (size : length work ≡ 65536) (e : ℕ) (from : 1 ≤ e) (to : e ≤ P .tau) where
+module _ (P : Params) (f : Fits P) (salt : List ℕ) (work : List ℕ) (size : length work ≡ workLength) (e : ℕ) (from : 1 ≤ e) (to : e ≤ P .tau) where
   pub committed-seeds : (map : Layout) (now : List ℕ) → LayoutOf P map → now ≡ put work (leavesAt P) (flatten (seedsIn P salt (drop (rootsAt P) work) e))
       → (secret : List ℕ) (before after : Sponge) (old new : List ℕ)
       → Committed P e salt secret (pieces (S P) (16 * groups P) (take (map .room - map .leaves) (drop (map .leaves) now))) before after old new
@@ -155,7 +144,7 @@ committing-none P signer s packing = record { absorbing = absorbing-none s; corr
 pub absorbing-repetition : (count : ℕ) (f : ℕ → List ℕ) (s r r′ : Sponge) → Absorbing s r (repeated count f) count → r′ ≡ absorbed r (f (count + 1)) → Absorbing s r′ (repeated (count + 1) f) (count + 1)
 absorbing-repetition count f s r r′ h e =
     subst (λ (x : List ℕ). Absorbing s r′ x (count + 1))
-    (ap (λ (i : ℕ). repeated count f ++ f i) (add-one count) ∙ sym (repeated-suc count f) ∙ ap (λ (i : ℕ). repeated i f) (sym (add-one count)))
+    (repeated-more count f)
     (absorbing-more s r r′ (repeated count f) (f (count + 1)) count h e)
 
 pub committing-more : (P : Params) (signer : Signer) (count : ℕ) (s r r′ : Sponge) (packing packing′ salt secret roots : List ℕ)

@@ -3,3 +3,4 @@ pub mod Planting
 pub mod Placing
 pub mod Committing
 pub mod Signers
+pub mod OneOutcome

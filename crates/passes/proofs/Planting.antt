@@ -4,10 +4,10 @@ use mathlib.Core.List.{List, [], _++_, flatten, append-nil}
 use Prim.Native.Nat.{ℕ, _+_, _-_, _*_, _≤_}
 use native.Mathlib.Omega.{arith}
 use lib.ListN.{length, take, drop, length-drop}
-use lib.Seq.{drop-drop, length-take-le}
+use lib.Seq.{drop-drop}
 use Rattle.memory.specs.Lists.{over, put}
 use Rattle.memory.specs.Sections.{pieces}
-use Rattle.memory.proofs.Parts.{take-put, mid-put, drop-put, lent-put}
+use Rattle.memory.proofs.Parts.{take-put, mid-put, lent-put}
 use Rattle.memory.proofs.Sections.{Each, pieces-flatten}
 use Rattle.memory.proofs.Stores.{over-whole}
 use Rattle.sets.specs.Sets.{S, N}
@@ -15,10 +15,12 @@ use Rattle.sets.specs.declared.Params.{Params}
 use Rattle.tree.specs.Tree.{children, getSeeds}
 use Rattle.tree.proofs.Laying.{each-getSeeds, length-leaves}
 use Rattle.tree.proofs.Theorems.{length-getSeeds}
-use Rattle.biscuit.specs.Room.{Fits, LayoutOf, groups, leavesAt, rootsAt}
+use Rattle.refusals.specs.Refusals.{workLength}
+use Rattle.biscuit.specs.Room.{Fits, LayoutOf, groups, leavesAt, rootsAt, rootIn}
 use Rattle.biscuit.specs.declared.Layout.{Layout}
-use Rattle.passes.specs.Passes.{rootIn, seedsIn, Kept}
-use Rattle.passes.proofs.Bounds.{mapped, among}
+use Rattle.biscuit.proofs.Parts.{length-lent, drop-behind-put}
+use Rattle.biscuit.proofs.Room.{mapped, length-rootIn}
+use Rattle.passes.specs.Passes.{seedsIn, Kept}
 
 -- the root of a repetition, in work
 pub root-part : (P : Params) (work : List ℕ) (e : ℕ) → rootIn (S P) (drop (rootsAt P) work) e ≡ take (S P) (drop (rootsAt P + (e - 1) * S P) work)
@@ -26,25 +28,22 @@ unfolding rootIn
 root-part P work e = ap (take (S P)) (drop-drop ((e - 1) * S P) (rootsAt P) work)
 
 -- the leaves' part, as the code lends it
-pub lent-length : (P : Params) → Fits P → (work : List ℕ) → length work ≡ 65536 → (map : Layout) → LayoutOf P map
+pub leaves-lent : (P : Params) → Fits P → (work : List ℕ) → length work ≡ workLength → (map : Layout) → LayoutOf P map
     → length (take (map .room - map .leaves) (drop (map .leaves) work)) ≡ 16 * groups P * S P
-lent-length P f work size map l =
-    let m = mapped P f in
+leaves-lent P f work size map l =
+    let m = mapped P in let enough = f .enough in
     let a = l .leaves in
     let b = l .room in
-    length-take-le (map .room - map .leaves) (drop (map .leaves) work) (simp length-drop (omega arith))
+    length-lent work (map .leaves) (map .room) (omega arith) (omega arith)
     ∙ (let z : map .room - map .leaves ≡ 16 * groups P * S P = omega arith in z)
 
-module _ (P : Params) (f : Fits P) (salt : List ℕ) (work : List ℕ) (size : length work ≡ 65536) (e : ℕ) (from : 1 ≤ e) (to : e ≤ P .tau) where
-  pub length-root : length (rootIn (S P) (drop (rootsAt P) work) e) ≡ S P
-  length-root =
-      let m = mapped P f in
-      let r = among e (P .tau) (S P) from to in
-      ap length (root-part P work e) ∙ length-take-le (S P) (drop (rootsAt P + (e - 1) * S P) work) (simp length-drop (omega arith))
+module _ (P : Params) (f : Fits P) (salt : List ℕ) (work : List ℕ) (size : length work ≡ workLength) (e : ℕ) (from : 1 ≤ e) (to : e ≤ P .tau) where
+  root-size : length (rootIn (S P) (drop (rootsAt P) work) e) ≡ S P
+  root-size = length-rootIn (S P) (drop (rootsAt P) work) e (P .tau) from to (let m = mapped P in let enough = f .enough in simp length-drop (omega arith))
 
   pub each-seed : Each (S P) (seedsIn P salt (drop (rootsAt P) work) e)
   unfolding seedsIn
-  each-seed = each-getSeeds (S P) salt e (P .l) _ length-root
+  each-seed = each-getSeeds (S P) salt e (P .l) _ root-size
 
   pub count-seeds : length (seedsIn P salt (drop (rootsAt P) work) e) ≡ 16 * groups P
   unfolding seedsIn N
@@ -52,26 +51,20 @@ module _ (P : Params) (f : Fits P) (salt : List ℕ) (work : List ℕ) (size : l
 
   pub length-planted : length (flatten (seedsIn P salt (drop (rootsAt P) work) e)) ≡ 16 * groups P * S P
   unfolding seedsIn N
-  length-planted = length-leaves (S P) salt e (P .l) _ length-root ∙ ap (λ (n : ℕ). n * S P) (f .parties)
+  length-planted = length-leaves (S P) salt e (P .l) _ root-size ∙ ap (λ (n : ℕ). n * S P) (f .parties)
 
   planted-fits : leavesAt P + length (flatten (seedsIn P salt (drop (rootsAt P) work) e)) ≤ length work
-  planted-fits = let m = mapped P f in let l = length-planted in omega arith
+  planted-fits = let m = mapped P in let enough = f .enough in let l = length-planted in omega arith
 
   -- circuit, roots and challenges stay
   pub planted-kept : Kept P work (put work (leavesAt P) (flatten (seedsIn P salt (drop (rootsAt P) work) e)))
   planted-kept =
       let leaves = flatten (seedsIn P salt (drop (rootsAt P) work) e) in
-      let m = mapped P f in
+      let m = mapped P in
       let l = length-planted in
-      let at : leavesAt P + length leaves + (rootsAt P - (leavesAt P + length leaves)) ≡ rootsAt P = omega arith in
       record {
         circuit = take-put work (leavesAt P) leaves planted-fits;
-        roots =
-            ap (λ (n : ℕ). drop n (put work (leavesAt P) leaves)) (sym at)
-            ∙ sym (drop-drop (rootsAt P - (leavesAt P + length leaves)) (leavesAt P + length leaves) (put work (leavesAt P) leaves))
-            ∙ ap (drop (rootsAt P - (leavesAt P + length leaves))) (drop-put work (leavesAt P) leaves planted-fits)
-            ∙ drop-drop (rootsAt P - (leavesAt P + length leaves)) (leavesAt P + length leaves) work
-            ∙ ap (λ (n : ℕ). drop n work) at;
+        roots = drop-behind-put work (leavesAt P) leaves (rootsAt P) planted-fits (omega arith);
       }
 
   -- the leaves are the seeds
@@ -90,7 +83,7 @@ module _ (P : Params) (f : Fits P) (salt : List ℕ) (work : List ℕ) (size : l
   pub planted-part : (map : Layout) (now : List ℕ) → LayoutOf P map → now ≡ put work (leavesAt P) (flatten (seedsIn P salt (drop (rootsAt P) work) e))
       → take (map .room - map .leaves) (drop (map .leaves) now) ≡ flatten (seedsIn P salt (drop (rootsAt P) work) e)
   planted-part map now l h =
-      let m = mapped P f in
+      let m = mapped P in let enough = f .enough in
       ap₂ (λ (a : ℕ) (x : List ℕ). take (map .room - map .leaves) (drop a x)) (l .leaves) h
       ∙ planted-leaves (map .room - map .leaves) (let a = l .leaves in let b = l .room in omega arith)
 
@@ -102,7 +95,7 @@ module _ (P : Params) (f : Fits P) (salt : List ℕ) (work : List ℕ) (size : l
   unfolding seedsIn
   planted map root copied last l er ec el =
       lent-put work (map .leaves) (map .room) last
-      (ap length whole ∙ length-planted ∙ (let m = mapped P f in let a = l .leaves in let b = l .room in let z : 16 * groups P * S P ≡ map .room - map .leaves = omega arith in z))
+      (ap length whole ∙ length-planted ∙ (let m = mapped P in let enough = f .enough in let a = l .leaves in let b = l .room in let z : 16 * groups P * S P ≡ map .room - map .leaves = omega arith in z))
       ∙ ap₂ (put work) (l .leaves) whole
     where
       at : ℕ
@@ -119,10 +112,10 @@ module _ (P : Params) (f : Fits P) (salt : List ℕ) (work : List ℕ) (size : l
       same : copied ≡ rootIn (S P) (drop (rootsAt P) work) e
       same =
           ec
-          ∙ over-whole (take (at + length root - at) (drop at work)) root (ap length part ∙ length-root ∙ sym er)
+          ∙ over-whole (take (at + length root - at) (drop at work)) root (ap length part ∙ root-size ∙ sym er)
           ∙ part
 
       whole : last ≡ flatten (getSeeds (children (S P) salt e) (P .l) (rootIn (S P) (drop (rootsAt P) work) e))
       whole =
           el
-          ∙ ap₂ (λ (n : ℕ) (x : List ℕ). flatten (getSeeds (children n salt e) (P .l) x)) (ap length same ∙ length-root) same
+          ∙ ap₂ (λ (n : ℕ) (x : List ℕ). flatten (getSeeds (children n salt e) (P .l) x)) (ap length same ∙ root-size) same

@@ -4,8 +4,9 @@ use mathlib.Core.List.{List}
 use Prim.Native.Nat.{ℕ}
 use Rattle.sets.specs.Sets.{S}
 use Rattle.sets.specs.declared.Params.{Params}
+use Rattle.biscuit.specs.Room.{rootIn}
 use Rattle.biscuit.specs.Sign.{Signer}
-use Rattle.passes.specs.Passes.{rootIn, sIn, tIn, yIn, HoldsSecret, HoldsRoots}
+use Rattle.passes.specs.Passes.{sIn, tIn, yIn, HoldsSecret, HoldsRoots}
 
 unfoldable pub signerIn : Params → List ℕ → List ℕ → List ℕ → List ℕ → Signer
 signerIn P seedF salt secret roots = record {

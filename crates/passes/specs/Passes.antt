@@ -13,13 +13,9 @@ use Rattle.tree.specs.Tree.{children, getSeeds}
 use Rattle.parties.specs.Repetition as repetition
 use Rattle.vectors.specs.Elements.{elementsAt}
 use Rattle.biscuit.specs.Sign.{Signer, deltaS, deltaC}
-use Rattle.biscuit.specs.Room.{leavesAt, rootsAt}
+use Rattle.biscuit.specs.Room.{leavesAt, rootsAt, rootIn}
 
 -- ---- what is lent
-
--- the root of repetition e, S bytes for each repetition
-unfoldable pub rootIn : ℕ → List ℕ → ℕ → List ℕ
-rootIn S roots e = take S (drop ((e - 1) * S) roots)
 
 -- algorithm 12, line 7: the seeds of all parties of repetition e
 unfoldable pub seedsIn : Params → List ℕ → List ℕ → ℕ → List (List ℕ)

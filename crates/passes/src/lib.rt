@@ -1,5 +1,8 @@
 // The loops of signing over all repetitions, algorithm 12: phase 1, which commits to the shares of every party and works out the corrections.
 // No secret picks a branch; y picks places in the table of products where the corrections are worked out, and nothing else picks an address. The numbers of the repetitions are public.
+use sets::LONGEST_SEED;
+use sets::MOST_EQUATIONS;
+use sets::MOST_VARIABLES;
 use sets::Params;
 use sponge::Sponge;
 ghost use mathlib.Core.Path.{_≡_};
@@ -16,14 +19,6 @@ ghost use Rattle.biscuit.specs.Signature.{vectorCount};
 ghost use Rattle.biscuit.specs.Room.{Fits, groups, leavesAt, rootsAt};
 ghost use Rattle.biscuit.specs.Sign.{Signer, σ₁};
 ghost use Rattle.passes.specs.Passes.{seedsIn, HoldsSecret, HoldsRoots, HoldsCorrections, Placed, Kept, Committed};
-
-// The bytes of the largest seed.
-const SEED: usize = 32;
-
-// The most variables and the most equations that a set has.
-const VARIABLES: usize = 118;
-
-const EQUATIONS: usize = 121;
 
 // Phase 1, lines 6 to 22: the first hash takes the commitments and the corrections of every repetition, and the corrections are written to the packing.
 pub fn commit_pass(
@@ -56,7 +51,7 @@ pub fn plant(p: Params, e: usize, salt: &[u8], work: &mut [u8])
     ensures { λ r. ⌜ now (work .exit) ≡ put (now (work .entry)) (leavesAt p) (flatten (seedsIn p (now (salt .entry)) (drop (rootsAt p) (now (work .entry))) e)) ⌝ }
 {
     let s = p.bits / 8;
-    let mut root = [0u8; SEED];
+    let mut root = [0u8; LONGEST_SEED];
     plant_from(p, e, salt, &mut root[0..s], work);
 }
 
@@ -111,8 +106,8 @@ fn commit_leaves(
 {
     let n = p.n;
     let m = p.m;
-    let mut ds = [0u8; VARIABLES];
-    let mut dc = [0u8; EQUATIONS];
+    let mut ds = [0u8; MOST_VARIABLES];
+    let mut dc = [0u8; MOST_EQUATIONS];
     commit_in(
         hash,
         p,

@@ -1,13 +1,12 @@
 -- What lent bytes hold afterwards, by the number: work cleared or kept, an output written or kept. Assumes nothing.
 use mathlib.Core.Path.{_≡_, refl, ap, ap₂, _∙_}
-use mathlib.Core.Bool.{Bool, _&&_, cond}
+use mathlib.Core.Bool.{Bool, cond}
 use mathlib.Core.List.{List, _++_}
-use Prim.Native.Nat.{ℕ, _≤_, _<_}
+use Prim.Native.Nat.{ℕ, _≤_}
 use native.Mathlib.Omega.{arith}
-use lib.Dec.{leb}
 use lib.ListN.{length, take, drop, replicate, length-append, length-replicate, length-drop}
 use lib.Seq.{take-at, drop-at, length-take-le}
-use borrow.Author.Tests.{le-leb, lt-leb, ne-eqb}
+use borrow.Author.Tests.{ne-eqb}
 use Rattle.memory.specs.Lists.{over}
 use Rattle.refusals.specs.Refusals.{workLength, cleared, workAfter, outputAfter}
 
@@ -33,19 +32,24 @@ cleared-again n work u v e h l f =
     (drop-at u (drop n work) n size)
     ∙ cleared-first n work e
 
+-- after a refusal of sizes work is as it was
 pub workAfter-refused : (number : ℕ) (work : List ℕ) → 1 ≤ number → number ≤ 7 → workAfter number work ≡ work
 unfolding workAfter
-workAfter-refused number work a b = ap₂ (λ (x y : Bool). cond (x && y) work (cleared work)) (le-leb 1 number a) (le-leb number 7 b)
+workAfter-refused number work a b =
+    simp (ne-eqb number 0 (λ e. absurd (omega arith)), ne-eqb number 8 (λ e. absurd (omega arith)), ne-eqb number 9 (λ e. absurd (omega arith)))
 
 pub outputAfter-refused : (number : ℕ) (result output : List ℕ) → (number ≡ 0 → ⊥) → outputAfter number result output ≡ output
 unfolding outputAfter
 outputAfter-refused number result output n = ap (λ (b : Bool). cond b (over result output) output) (ne-eqb number 0 n)
 
--- after 8 and 9, and after 0
-pub workAfter-tested : (number : ℕ) (work : List ℕ) → 7 < number → workAfter number work ≡ cleared work
+-- after 8 and 9, and after 0, it is cleared
+pub workAfter-inconsistent : (work : List ℕ) → workAfter 8 work ≡ cleared work
 unfolding workAfter
-workAfter-tested number work h =
-    ap₂ (λ (x y : Bool). cond (x && y) work (cleared work)) (le-leb 1 number (omega arith)) (lt-leb number 7 h)
+workAfter-inconsistent work = refl
+
+pub workAfter-not-accepted : (work : List ℕ) → workAfter 9 work ≡ cleared work
+unfolding workAfter
+workAfter-not-accepted work = refl
 
 pub workAfter-done : (work : List ℕ) → workAfter 0 work ≡ cleared work
 unfolding workAfter
@@ -54,3 +58,8 @@ workAfter-done work = refl
 pub outputAfter-done : (result output : List ℕ) → outputAfter 0 result output ≡ over result output
 unfolding outputAfter
 outputAfter-done result output = refl
+
+-- an envelope's refusals leave it as it was
+pub workAfter-envelope : (work : List ℕ) → (workAfter 10 work ≡ work) × (workAfter 11 work ≡ work)
+unfolding workAfter
+workAfter-envelope work = (refl, refl)

@@ -1,3 +1,4 @@
 pub mod Lent
+pub mod OneOutcome
 pub mod Refusals
 pub mod Sizes

@@ -1,9 +1,9 @@
 -- The numbers that the desk says (document 01, "What the desk says"), the tests of sizes in their order, and what lent bytes hold afterwards by the number.
 -- A size test is over lengths; the names are those of the lent parts. Assumes nothing.
-use mathlib.Core.Bool.{Bool, not, _&&_, _||_, cond}
+use mathlib.Core.Bool.{Bool, not, _||_, cond}
 use mathlib.Core.List.{List, _++_}
 use Prim.Native.Nat.{ℕ, _*_}
-use lib.Dec.{eqb, leb, ltb}
+use lib.Dec.{eqb, ltb}
 use lib.ListN.{drop, replicate}
 use Rattle.memory.specs.Lists.{over}
 use Rattle.sets.specs.Sets.{S, paramsOf, secretKeyLength, publicKeyLength, signatureLength}
@@ -129,9 +129,9 @@ orElse sizes rest = cond (eqb sizes done) rest sizes
 unfoldable pub cleared : List ℕ → List ℕ
 cleared work = replicate workLength 0 ++ drop workLength work
 
--- "Refusals 1 to 7 .. change nothing. After 8, 9 or 0 a lent work buffer has its first 65,536 bytes zero and the rest unchanged"
+-- "Refusals 1 to 7, 10 and 11 change nothing. After 8, 9 or 0 a lent work buffer has its first 65,536 bytes zero and the rest unchanged"
 unfoldable pub workAfter : ℕ → List ℕ → List ℕ
-workAfter number work = cond (leb 1 number && leb number 7) work (cleared work)
+workAfter number work = cond (eqb number done || (eqb number keyNotConsistent || eqb number notAccepted)) (cleared work) work
 
 -- "8 and 9 leave outputs untouched. After 0 an output holds the result first, and its later bytes are unchanged"
 unfoldable pub outputAfter : ℕ → List ℕ → List ℕ → List ℕ

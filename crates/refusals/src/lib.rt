@@ -130,10 +130,12 @@ pub fn verify_sizes(
     if MESSAGE_LIMIT < message {
         return MESSAGE_TOO_LONG;
     }
-    if public_key != sets::public_key_len(set) {
+    let key = sets::public_key_len(set);
+    let whole = sets::signature_len(set);
+    if public_key != key {
         return KEY_LENGTH_WRONG;
     }
-    if signature != sets::signature_len(set) {
+    if signature != whole {
         return SIGNATURE_LENGTH_WRONG;
     }
     if work < WORK {

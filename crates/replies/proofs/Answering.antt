@@ -11,14 +11,15 @@ use Rattle.forms.specs.Circuit.{Circuit}
 use Rattle.forms.specs.Room.{HoldsCircuit}
 use Rattle.parties.specs.Repetition as repetition
 use Rattle.answers.proofs.Absorbing.{Absorbing, absorbing-all}
+use Rattle.refusals.specs.Refusals.{workLength}
 use Rattle.biscuit.specs.Signature.{repeated}
 use Rattle.biscuit.specs.Sign as sign
 use Rattle.biscuit.specs.Sign.{Signer}
 use Rattle.biscuit.specs.Room.{Fits, leavesAt, rootsAt, challengesAt}
+use Rattle.biscuit.proofs.Room.{behind-roots}
 use Rattle.passes.specs.Passes.{seedsIn, HoldsRoots, Kept}
 use Rattle.passes.proofs.Committing.{absorbing-repetition}
 use Rattle.replies.specs.Replies.{HoldsChallenges, Challenged, valuesIn, answersIn}
-use Rattle.replies.proofs.Lending.{challenges-kept}
 use Rattle.replies.proofs.Signed.{answers-signed}
 
 -- where work has the parts that stay, it has them of the same signer
@@ -27,7 +28,7 @@ pub challenged-kept : (P : Params) (signer : Signer) (msg salt secret packing be
 challenged-kept P signer msg salt secret packing before after k h = record {
   held = h .held;
   circuit = subst (λ (x : List ℕ). HoldsCircuit (P .n) (P .m) (sign.f P signer) x) (sym (k .circuit)) (h .circuit);
-  challenges = subst (λ (x : List ℕ). HoldsChallenges P signer msg x) (sym (challenges-kept P before after k)) (h .challenges);
+  challenges = subst (λ (x : List ℕ). HoldsChallenges P signer msg x) (sym (behind-roots P before after (k .roots))) (h .challenges);
   corrections = h .corrections;
 }
 
@@ -35,7 +36,7 @@ challenged-kept P signer msg salt secret packing before after k h = record {
 abbrev pub answersUpTo : Params → Signer → List ℕ → ℕ → List ℕ
 answersUpTo P signer msg count = repeated count (λ e. repetition.second (sign.αs P signer msg e) (sign.allV P signer msg e))
 
-pub answering-more : (P : Params) → Fits P → (signer : Signer) (msg salt secret packing work : List ℕ) (count : ℕ) (s r r′ : Sponge) → length secret ≡ P .n + P .m + P .m → length work ≡ 65536
+pub answering-more : (P : Params) → Fits P → (signer : Signer) (msg salt secret packing work : List ℕ) (count : ℕ) (s r r′ : Sponge) → length secret ≡ P .n + P .m + P .m → length work ≡ workLength
     → Challenged P signer msg salt secret packing work → HoldsRoots P signer (drop (rootsAt P) work) → count < P .tau → Absorbing s r (answersUpTo P signer msg count) count
     → ((f : Circuit) → HoldsCircuit (P .n) (P .m) f (take (leavesAt P) work)
     → r′ ≡ absorbed r (answersIn P f (count + 1) salt (valuesIn P (count + 1) secret packing (drop (challengesAt P) work)) (flatten (seedsIn P salt (drop (rootsAt P) work) (count + 1)))))

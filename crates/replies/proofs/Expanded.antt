@@ -14,7 +14,7 @@ use Rattle.forms.proofs.Room.{packed-holds, expanded-challenge, expanded-hidden
 use Rattle.parties.specs.Repetition.{challenge, hiddenParty}
 use Rattle.biscuit.specs.Sign.{Signer, h₁, ε, h₂, hidden}
 use Rattle.biscuit.specs.Room.{Fits}
-use Rattle.passes.proofs.Bounds.{among}
+use Rattle.biscuit.proofs.Repeated.{among}
 use Rattle.replies.specs.Replies.{HoldsChallenges, HoldsHidden}
 
 -- a challenge among the first bytes

@@ -2,13 +2,12 @@
 use mathlib.Core.Path.{_≡_, refl, sym, ap, subst, _∙_}
 use mathlib.Core.Bool.{Bool, true, false, cond}
 use mathlib.Core.List.{List, []}
-use Prim.Native.Nat.{ℕ, _+_, _-_, _*_, _^_, _≤_, _<_}
+use Prim.Native.Nat.{ℕ, _+_, _-_, _*_, _≤_, _<_}
 use native.Mathlib.Decide.{decLe}
-use native.Mathlib.Nat.{mod-lt}
 use native.Mathlib.Omega.{arith}
 use lib.Dec.{eqb}
 use lib.ListN.{length, getD, take, drop}
-use lib.Pow.{pow-pos, pow-mono}
+use lib.Pow.{pow-mono}
 use Rattle.field.specs.Packing.{Elements, nib, packedLength}
 use Rattle.field.specs.Vectors.{_⊕_}
 use Rattle.field.proofs.Packing.{unpack-elements}
@@ -24,26 +23,19 @@ use Rattle.vectors.specs.Elements.{elementsAt, elementsPut}
 use Rattle.biscuit.specs.Signature.{vectorCount}
 use Rattle.biscuit.specs.Sign as sign
 use Rattle.biscuit.specs.Sign.{Signer}
-use Rattle.biscuit.specs.Room.{leavesAt, rootsAt, challengesAt}
-use Rattle.passes.specs.Passes.{rootIn, HoldsCorrections, Placed}
-use Rattle.passes.proofs.Bounds.{among, alpha-end}
+use Rattle.biscuit.specs.Room.{leavesAt, rootsAt, challengesAt, rootIn}
+use Rattle.biscuit.proofs.Repeated.{among}
+use Rattle.biscuit.proofs.Room.{hidden-from-one, hidden-within}
+use Rattle.passes.specs.Passes.{HoldsCorrections, Placed}
+use Rattle.passes.proofs.Bounds.{alpha-end}
 use Rattle.passes.proofs.Placing.{placed-one, elements-below}
 use Rattle.replies.specs.Replies.{Challenged, HoldsHidden, HoldsLeaves, valuesIn, alphaIn, alphaAt, HoldsAlphas}
 use Rattle.replies.proofs.Signed.{alpha-signed}
 
 -- ---- one repetition
 
--- a hidden party is one of the N
-pub hidden-some : (l : ℕ) (bytes : List ℕ) (e : ℕ) → 1 ≤ hiddenIn l bytes e
-unfolding hiddenIn
-hidden-some l bytes e = omega arith
-
-pub hidden-most : (l : ℕ) (bytes : List ℕ) (e : ℕ) → hiddenIn l bytes e ≤ 2 ^ l
-unfolding hiddenIn
-hidden-most l bytes e = let b = mod-lt (getD bytes (e - 1) 0) (pow-pos l) in omega arith
-
 pub hidden-small : (l : ℕ) (bytes : List ℕ) (e : ℕ) → l ≤ 8 → hiddenIn l bytes e ≤ 4096
-hidden-small l bytes e h = let a = hidden-most l bytes e in let b = pow-mono {i = l} {j = 8} h in omega arith
+hidden-small l bytes e h = let a = hidden-within l bytes e in let b = pow-mono {i = l} {j = 8} h in omega arith
 
 corrected-mask : (Δs Δc : List ℕ) (i : ℕ) (p : Share) → Elements (p .a) → Elements (corrected Δs Δc i p .a)
 unfolding corrected
@@ -130,7 +122,7 @@ alphas-more P signer msg salt secret hidden before after work count size challen
           subst (λ (i : ℕ). elementsAt after (alphaAt P i) (P .m) ≡ getD (sign.αs P signer msg i) (sign.hidden P signer msg i - 1) []) last
           (placed .here
           ∙ alpha-signed P signer msg salt secret before work size challenged (count + 1) from to (hiddenIn (P .l) hidden (count + 1)) (rootIn (S P) (drop (rootsAt P) work) (count + 1))
-          (hidden-some (P .l) hidden (count + 1)) (hidden-most (P .l) hidden (count + 1))
+          (hidden-from-one (P .l) hidden (count + 1)) (hidden-within (P .l) hidden (count + 1))
           (leaves (count + 1) from to ∙ ap (λ (i : ℕ). getD (sign.seeds P signer (count + 1)) (i - 1) []) (sym party))
           ∙ ap (λ (i : ℕ). getD (sign.αs P signer msg (count + 1)) (i - 1) []) party))
     ]

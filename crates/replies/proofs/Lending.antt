@@ -4,7 +4,7 @@ use mathlib.Core.List.{List, _++_, flatten}
 use Prim.Native.Nat.{ℕ, _+_, _-_, _*_, _/_, _≤_, _<_}
 use native.Mathlib.Omega.{arith}
 use lib.ListN.{length, take, drop, replicate, length-take}
-use lib.Seq.{take-take, drop-drop, take-append-le, drop-at, length-take-le}
+use lib.Seq.{take-take, drop-drop, take-append-le, drop-at}
 use Rattle.memory.specs.Lists.{put}
 use Rattle.memory.proofs.Sections.{drop-take}
 use Rattle.field.specs.Packing.{packedLength, unpack}
@@ -21,28 +21,22 @@ use Rattle.group.specs.declared.Rep.{Rep}
 use Rattle.group.specs.Shares.{Sized, valuesLength, deltaS, deltaC, epsilon}
 use Rattle.answers.specs.Answers.{sharesOf, answered}
 use Rattle.vectors.specs.Elements.{elementsAt}
-use Rattle.biscuit.specs.Room.{Fits, groups, leavesAt, rootsAt, challengesAt}
-use Rattle.passes.specs.Passes.{rootIn, seedsIn, tIn, Kept}
-use Rattle.passes.proofs.Bounds.{mapped, among}
+use Rattle.refusals.specs.Refusals.{workLength}
+use Rattle.biscuit.specs.Room.{Fits, groups, leavesAt, rootsAt, challengesAt, rootIn}
+use Rattle.biscuit.proofs.Parts.{length-first}
+use Rattle.biscuit.proofs.Repeated.{among-end}
+use Rattle.biscuit.proofs.Room.{mapped, behind-roots, some-groups, few-groups}
+use Rattle.passes.specs.Passes.{seedsIn, tIn, Kept}
 use Rattle.passes.proofs.Planting.{root-part, planted-leaves, planted-kept}
-use Rattle.passes.proofs.Committing.{groups-few, some-groups, kept-more}
+use Rattle.passes.proofs.Committing.{kept-more}
 use Rattle.replies.specs.Replies.{repOf, valuesIn, answersIn, alphaIn}
 
 -- ---- the parts of work
 
 -- the challenge of repetition e lies in work
-pub challenge-end : (P : Params) (e w at : ℕ) → Fits P → 1 ≤ e → e ≤ P .tau → w ≡ packedLength (P .m) → at ≡ challengesAt P → at + (e - 1) * w + w ≤ 65536
+pub challenge-end : (P : Params) (e w at : ℕ) → Fits P → 1 ≤ e → e ≤ P .tau → w ≡ packedLength (P .m) → at ≡ challengesAt P → at + (e - 1) * w + w ≤ workLength
 challenge-end P e w at f h k ew ea =
-    let m = mapped P f in
-    let r = among e (P .tau) (packedLength (P .m)) h k in
-    let g = ap (λ (x : ℕ). (e - 1) * x) ew in
-    omega arith
-
--- the challenges stay where the roots do
-pub challenges-kept : (P : Params) (before after : List ℕ) → Kept P before after → drop (challengesAt P) after ≡ drop (challengesAt P) before
-unfolding challengesAt
-challenges-kept P before after k =
-    sym (drop-drop (P .tau * S P) (rootsAt P) after) ∙ ap (drop (P .tau * S P)) (k .roots) ∙ drop-drop (P .tau * S P) (rootsAt P) before
+    among-end e (P .tau) (packedLength (P .m)) (challengesAt P) workLength w at h k (let m = mapped P in let enough = f .enough in omega arith) ew ea
 
 -- the challenge, as it is lent
 pub challenge-lent : (P : Params) (e w at from : ℕ) (work : List ℕ) → w ≡ packedLength (P .m) → from ≡ challengesAt P → at ≡ from + (e - 1) * w
@@ -69,10 +63,10 @@ module _ (P : Params) (e : ℕ) (f : Fits P) (rep : Rep) (same : rep ≡ repOf P
   pub rep-sized : Sized rep
   rep-sized =
       subst (λ (q : Rep). Sized q) (sym same)
-      (record { variables = f .variables; some = f .some; equations = f .equations; seed = f .seed; groups = groups-few P f })
+      (record { variables = f .variables; some = f .some; equations = f .equations; seed = f .seed; groups = few-groups P f })
 
   pub rep-some : 0 < rep .groups
-  rep-some = subst (λ (q : Rep). 0 < q .groups) (sym same) (some-groups P f)
+  rep-some = subst (λ (q : Rep). 0 < q .groups) (sym same) (some-groups P)
 
   pub rep-nobody : rep .hidden ≡ 0
   rep-nobody = ap (λ (q : Rep). q .hidden) same
@@ -83,23 +77,25 @@ module _ (P : Params) (e : ℕ) (f : Fits P) (rep : Rep) (same : rep ≡ repOf P
   pub rep-equations : (v : List ℕ) → length v ≡ P .m → length v ≡ rep .m
   rep-equations v h = h ∙ sym (ap (λ (q : Rep). q .m) same)
 
-  module _ (work : List ℕ) (whole : length work ≡ 65536) where
+  module _ (work : List ℕ) (whole : length work ≡ workLength) where
     -- the circuit alone
     pub circuit-size : (end : ℕ) → end ≡ leavesAt P → length (take (end - 0) (drop 0 work)) ≡ circuitLength (rep .n) (rep .m)
     unfolding leavesAt
     circuit-size end h =
-        let m = mapped P f in
-        length-take-le (end - 0) work (omega arith)
-        ∙ (let z : end - 0 ≡ circuitLength (P .n) (P .m) = omega arith in z)
+        let m = mapped P in
+        let enough = f .enough in
+        length-first work end (omega arith)
+        ∙ (let z : end ≡ circuitLength (P .n) (P .m) = omega arith in z)
         ∙ sym (ap (λ (q : Rep). circuitLength (q .n) (q .m)) same)
 
     -- circuit, leaves and room
     pub rooms-size : (end : ℕ) → end ≡ rootsAt P → length (take (end - 0) (drop 0 work)) ≡ circuitLength (rep .n) (rep .m) + 16 * rep .groups * rep .s + rep .groups * (16 * rep .m)
     unfolding leavesAt
     rooms-size end h =
-        let m = mapped P f in
-        length-take-le (end - 0) work (omega arith)
-        ∙ (let z : end - 0 ≡ circuitLength (P .n) (P .m) + 16 * groups P * S P + groups P * (16 * P .m) = omega arith in z)
+        let m = mapped P in
+        let enough = f .enough in
+        length-first work end (omega arith)
+        ∙ (let z : end ≡ circuitLength (P .n) (P .m) + 16 * groups P * S P + groups P * (16 * P .m) = omega arith in z)
         ∙ sym (ap (λ (q : Rep). circuitLength (q .n) (q .m) + 16 * q .groups * q .s + q .groups * (16 * q .m)) same)
 
     circuit-part : (end : ℕ) → leavesAt P ≤ end → take (circuitLength (P .n) (P .m)) (take (end - 0) (drop 0 work)) ≡ take (leavesAt P) work
@@ -109,7 +105,8 @@ module _ (P : Params) (e : ℕ) (f : Fits P) (rep : Rep) (same : rep ≡ repOf P
     leaves-part : (end : ℕ) → end ≡ rootsAt P → take (16 * groups P * S P) (drop (circuitLength (P .n) (P .m)) (take (end - 0) (drop 0 work))) ≡ take (16 * groups P * S P) (drop (leavesAt P) work)
     unfolding leavesAt
     leaves-part end h =
-        let m = mapped P f in
+        let m = mapped P in
+        let enough = f .enough in
         let a = circuitLength (P .n) (P .m) in
         let z : end - 0 ≡ circuitLength (P .n) (P .m) + (end - circuitLength (P .n) (P .m)) = omega arith in
         ap (λ (k : ℕ). take (16 * groups P * S P) (drop (circuitLength (P .n) (P .m)) (take k work))) z
@@ -123,7 +120,8 @@ module _ (P : Params) (e : ℕ) (f : Fits P) (rep : Rep) (same : rep ≡ repOf P
         → (c : Circuit) → HoldsCircuit (P .n) (P .m) c (take (leavesAt P) work) → r ≡ absorbed hash (answersIn P c e salt values (take (16 * groups P * S P) (drop (leavesAt P) work)))
     unfolding answersIn
     absorbed-leaves hash r salt values end h k c held =
-        let m = mapped P f in
+        let m = mapped P in
+        let enough = f .enough in
         let g = subst (λ (q : Rep). (Q : Params) (c : Circuit) → Q .n ≡ q .n → Q .m ≡ q .m → HoldsCircuit (q .n) (q .m) c (take (circuitLength (q .n) (q .m)) (take (end - 0) (drop 0 work)))
         → r ≡ absorbed hash (answered c q values (sharesOf Q q salt (take (16 * q .groups * q .s) (drop (circuitLength (q .n) (q .m)) (take (end - 0) (drop 0 work)))) values))) same k in
         g P c refl refl (subst (λ (x : List ℕ). HoldsCircuit (P .n) (P .m) c x) (sym (circuit-part end (omega arith))) held)
@@ -138,8 +136,9 @@ module _ (P : Params) (e : ℕ) (f : Fits P) (rep : Rep) (same : rep ≡ repOf P
         → take (circuitLength (rep .n) (rep .m)) rooms ≡ take (circuitLength (rep .n) (rep .m)) (take (end - 0) (drop 0 work))
         → Kept P work (rooms ++ drop (end - 0) work)
     rooms-kept end rooms h size k =
-        let m = mapped P f in
-        let l = length-take-le (end - 0) work (omega arith) in
+        let m = mapped P in
+        let enough = f .enough in
+        let l = length-first work end (omega arith) in
         let g = subst (λ (q : Rep). take (circuitLength (q .n) (q .m)) rooms ≡ take (circuitLength (q .n) (q .m)) (take (end - 0) (drop 0 work))) same k in
         record {
           circuit = circuit-before rooms (drop (end - 0) work) (omega arith) ∙ g ∙ circuit-part end (omega arith);
@@ -174,7 +173,7 @@ answered-values P e salt given values leaves work hash r h k c held = k c held �
 
 -- ---- the leaves planted
 
-module _ (P : Params) (f : Fits P) (salt work : List ℕ) (whole : length work ≡ 65536) (e : ℕ) (from : 1 ≤ e) (to : e ≤ P .tau) where
+module _ (P : Params) (f : Fits P) (salt work : List ℕ) (whole : length work ≡ workLength) (e : ℕ) (from : 1 ≤ e) (to : e ≤ P .tau) where
   -- one repetition, seen from work before
   pub answered-planted : (hash r : Sponge) (secret packing now : List ℕ) → now ≡ put work (leavesAt P) (flatten (seedsIn P salt (drop (rootsAt P) work) e))
       → ((c : Circuit) → HoldsCircuit (P .n) (P .m) c (take (leavesAt P) now) → r ≡ absorbed hash (answersIn P c e salt (valuesIn P e secret packing (drop (challengesAt P) now)) (take (16 * groups P * S P) (drop (leavesAt P) now))))
@@ -183,7 +182,7 @@ module _ (P : Params) (f : Fits P) (salt work : List ℕ) (whole : length work �
   answered-planted hash r secret packing now h k c held =
       let kept = subst (λ (w : List ℕ). Kept P work w) (sym h) (planted-kept P f salt work whole e from to) in
       k c (subst (λ (x : List ℕ). HoldsCircuit (P .n) (P .m) c x) (sym (kept .circuit)) held)
-      ∙ ap₂ (λ (x l : List ℕ). absorbed hash (answersIn P c e salt (valuesIn P e secret packing x) l)) (challenges-kept P work now kept)
+      ∙ ap₂ (λ (x l : List ℕ). absorbed hash (answersIn P c e salt (valuesIn P e secret packing x) l)) (behind-roots P work now (kept .roots))
       (ap (λ (w : List ℕ). take (16 * groups P * S P) (drop (leavesAt P) w)) h ∙ planted-leaves P f salt work whole e from to (16 * groups P * S P) refl)
 
   pub kept-planted : (now end : List ℕ) → now ≡ put work (leavesAt P) (flatten (seedsIn P salt (drop (rootsAt P) work) e)) → Kept P now end → Kept P work end

@@ -4,3 +4,4 @@ pub mod Lending
 pub mod Answering
 pub mod Hiding
 pub mod Expanded
+pub mod OneOutcome

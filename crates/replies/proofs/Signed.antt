@@ -5,22 +5,20 @@ use Prim.Native.Nat.{ℕ, suc, _+_, _-_, _*_, _^_, _≤_}
 use native.Mathlib.Omega.{arith}
 use lib.ListN.{length, getD, take, drop, length-append}
 use lib.Seq.{take-at, drop-at, take-all, length-take-le}
-use Rattle.field.proofs.Vectors.{length-⊕}
 use Rattle.sets.specs.declared.Params.{Params}
 use Rattle.parties.specs.Parties.{Share, parties, corrected, alphaOf, alphas, vs}
-use Rattle.parties.specs.Parties as party
 use Rattle.parties.specs.Repetition as repetition
 use Rattle.parties.proofs.Numbered.{numbered-numbered, length-parties, getD-parties}
-use Rattle.parties.proofs.Sizes.{length-secret-le}
-use Rattle.parties.proofs.Corrections.{raws-sized}
 use Rattle.parties.proofs.KnownIsSigned.{nobody-alphas, nobody-vs}
 use Rattle.group.specs.Shares as shares
 use Rattle.answers.specs.Answers.{sharesOf, answered}
 use Rattle.vectors.specs.Elements.{elementsAt}
 use Rattle.vectors.proofs.Elements.{length-elements-at}
+use Rattle.refusals.specs.Refusals.{workLength}
 use Rattle.biscuit.specs.Sign as sign
 use Rattle.biscuit.specs.Sign.{Signer}
 use Rattle.biscuit.specs.Room.{Fits, rootsAt, challengesAt}
+use Rattle.biscuit.proofs.SignSized as sized
 use Rattle.biscuit.proofs.SignSized.{length-seeds}
 use Rattle.passes.specs.Passes.{seedsIn, sIn, HoldsRoots, HoldsCorrections}
 use Rattle.passes.proofs.Planting.{pieces-seeds}
@@ -35,13 +33,8 @@ sharesFrom P e Δs Δc salt seeds = parties (λ i seed. corrected Δs Δc i (rep
 module _ (P : Params) (signer : Signer) (msg salt secret packing work : List ℕ) (size : length secret ≡ P .n + P .m + P .m) (challenged : Challenged P signer msg salt secret packing work)
     (e : ℕ) (from : 1 ≤ e) (to : e ≤ P .tau) where
   length-deltaS : length (sign.deltaS P signer e) ≡ P .n
-  unfolding sign.deltaS repetition.deltaS sIn
-  length-deltaS =
-      let ps = repetition.raws P (signer .salt) e (sign.seeds P signer e) in
-      let a = length-secret-le (P .n) (P .m) ps (raws-sized P (signer .salt) e (sign.seeds P signer e)) in
-      let b = length-⊕ (signer .key .s) (party.secret ps) in
-      let c = ap length (challenged .held .s) ∙ length-take-le (P .n) secret (omega arith) in
-      omega arith
+  unfolding sign.deltaS sIn
+  length-deltaS = sized.length-deltaS P (signer .salt) e (sign.seeds P signer e) (signer .key .s) (ap length (challenged .held .s) ∙ length-take-le (P .n) secret (omega arith))
 
   -- the corrections of the packing
   read-corrections : elementsAt packing ((e - 1) * (P .n + P .m)) (P .n + P .m) ≡ sign.deltaS P signer e ++ sign.deltaC P signer e
@@ -82,7 +75,7 @@ module _ (P : Params) (signer : Signer) (msg salt secret packing work : List ℕ
   shares-signed =
       sym (numbered-numbered (corrected (sign.deltaS P signer e) (sign.deltaC P signer e)) (repetition.rawShare P (signer .salt) e) 1 (sign.seeds P signer e))
 
-  module _ (f : Fits P) (whole : length work ≡ 65536) (rooted : HoldsRoots P signer (drop (rootsAt P) work)) where
+  module _ (f : Fits P) (whole : length work ≡ workLength) (rooted : HoldsRoots P signer (drop (rootsAt P) work)) where
     shares-in : sharesOf P (repOf P e) salt (flatten (seedsIn P salt (drop (rootsAt P) work) e)) (valuesIn P e secret packing (drop (challengesAt P) work)) ≡ sign.shares P signer e
     unfolding sharesOf sharesFrom
     shares-in =

@@ -1,10 +1,10 @@
 -- The values of a repetition, laid one after another: how they come about part by part, their size, and where each of them is read again. Assumes nothing.
-use mathlib.Core.Path.{_≡_, refl, sym, ap, ap₂, _∙_}
-use mathlib.Core.List.{List, [], _++_, append-assoc, append-nil}
+use mathlib.Core.Path.{_≡_, sym, ap, ap₂, _∙_}
+use mathlib.Core.List.{List, _++_, append-assoc}
 use Prim.Native.Nat.{ℕ, _+_, _-_, _*_, _≤_}
 use native.Mathlib.Omega.{arith}
 use lib.ListN.{length, take, drop, replicate, length-append, length-drop}
-use lib.Seq.{take-at, drop-at, take-append-le, drop-append-le, length-take-le, drop-drop, drop-length}
+use lib.Seq.{take-at, drop-at, take-append-le, drop-append-le, length-take-le}
 use Rattle.memory.specs.Lists.{over}
 use Rattle.memory.proofs.Stores.{over-whole}
 use Rattle.memory.proofs.Xors.{getD-zeros}
@@ -15,6 +15,7 @@ use Rattle.forms.specs.Room.{challengeIn}
 use Rattle.group.specs.Shares.{deltaS, deltaC, epsilon, target}
 use Rattle.vectors.specs.Elements.{elementsAt}
 use Rattle.vectors.proofs.Elements.{length-elements-at, elements-at-elements}
+use Rattle.biscuit.proofs.Parts.{length-lent, four-sizes, four-sections}
 use Rattle.biscuit.proofs.Repeated.{append-elements, take-elements, drop-elements}
 use Rattle.passes.specs.Passes.{tIn}
 use Rattle.replies.specs.Replies.{repOf, valuesIn}
@@ -24,17 +25,6 @@ use Rattle.replies.specs.Replies.{repOf, valuesIn}
 -- the part behind the first
 second-part : (u v w : List ℕ) (a m : ℕ) → length u ≡ a → length v ≡ m → take m (drop a (u ++ (v ++ w))) ≡ v
 second-part u v w a m eu ev = ap (take m) (drop-at u (v ++ w) a eu) ∙ take-at v w m ev
-
--- a part is written behind those that stand already
-pub section-more : (p x cur old : List ℕ) (a e : ℕ) → length p ≡ a → length x ≡ e - a → a ≤ e → cur ≡ p ++ drop a old
-    → take a cur ++ (x ++ drop (e - a) (drop a cur)) ≡ (p ++ x) ++ drop e old
-section-more p x cur old a e ep ex h ec =
-    let z : a + (e - a) ≡ e = omega arith in
-    ap₂ (λ (u v : List ℕ). u ++ (x ++ drop (e - a) v))
-    (ap (take a) ec ∙ take-at p (drop a old) a ep)
-    (ap (drop a) ec ∙ drop-at p (drop a old) a ep)
-    ∙ ap (λ (v : List ℕ). p ++ (x ++ v)) (drop-drop (e - a) a old ∙ ap (λ (k : ℕ). drop k old) z)
-    ∙ sym (append-assoc p x (drop e old))
 
 -- ---- the values
 
@@ -85,17 +75,9 @@ module _ (P : Params) (e : ℕ) (secret packing challenges : List ℕ) (size : l
 
 -- ---- the four parts, written one after another
 
-pub part-size : (v : List ℕ) (a b : ℕ) → a ≤ b → b ≤ length v → length (take (b - a) (drop a v)) ≡ b - a
-part-size v a b h k = length-take-le (b - a) (drop a v) (simp length-drop (omega arith))
-
-lent-size : (v x : List ℕ) (a b : ℕ) → a ≤ b → b ≤ length v → length x ≡ b - a → length (take a v ++ (x ++ drop (b - a) (drop a v))) ≡ length v
-lent-size v x a b h k e =
-    let z = length-take-le a v (omega arith) in
-    simp (length-append, length-drop) (omega arith)
-
 -- t, as the code lends it
 copied-size : (P : Params) (secret : List ℕ) (a : ℕ) → length secret ≡ P .n + P .m + P .m → a ≡ P .n + P .m → length (take (a - P .n) (drop (P .n) secret)) ≡ P .m
-copied-size P secret a h e = part-size secret (P .n) a (omega arith) (omega arith) ∙ (let q : a - P .n ≡ P .m = omega arith in q)
+copied-size P secret a h e = length-lent secret (P .n) a (omega arith) (omega arith) ∙ (let q : a - P .n ≡ P .m = omega arith in q)
 
 copied-part : (P : Params) (secret : List ℕ) (a : ℕ) → a ≡ P .n + P .m → take (a - P .n) (drop (P .n) secret) ≡ take (P .m) (drop (P .n) secret)
 copied-part P secret a e = ap (λ (k : ℕ). take k (drop (P .n) secret)) (let q : a - P .n ≡ P .m = omega arith in q)
@@ -109,45 +91,6 @@ module _ (x y z w old v₁ v₂ v₃ v₄ : List ℕ) (a b c d : ℕ) (ab : a �
     (ky : length y ≡ length (take (b - a) (drop a v₁)))
     (kz : length z ≡ length (take (c - b) (drop b v₂)))
     (kw : length w ≡ length (take (d - c) (drop c v₃))) where
-  size-x : length (take (a - 0) (drop 0 old)) ≡ a
-  size-x = part-size old 0 a (omega arith) (omega arith) ∙ (let q : a - 0 ≡ a = omega arith in q)
-
-  whole₁ : length v₁ ≡ d
-  whole₁ = ap length e₁ ∙ lent-size old x 0 a (omega arith) (omega arith) (kx ∙ part-size old 0 a (omega arith) (omega arith)) ∙ room
-
-  size-y : length (take (b - a) (drop a v₁)) ≡ b - a
-  size-y = let l = whole₁ in part-size v₁ a b ab (omega arith)
-
-  whole₂ : length v₂ ≡ d
-  whole₂ = let l = whole₁ in ap length e₂ ∙ lent-size v₁ y a b ab (omega arith) (ky ∙ size-y) ∙ l
-
-  size-z : length (take (c - b) (drop b v₂)) ≡ c - b
-  size-z = let l = whole₂ in part-size v₂ b c bc (omega arith)
-
-  whole₃ : length v₃ ≡ d
-  whole₃ = let l = whole₂ in ap length e₃ ∙ lent-size v₂ z b c bc (omega arith) (kz ∙ size-z) ∙ l
-
-  size-w : length (take (d - c) (drop c v₃)) ≡ d - c
-  size-w = let l = whole₃ in part-size v₃ c d cd (omega arith)
-
-  pub filled-length : length v₄ ≡ length old
-  filled-length = let l = whole₃ in ap length e₄ ∙ lent-size v₃ w c d cd (omega arith) (kw ∙ size-w) ∙ (l ∙ sym room)
-
-  four-sections : v₄ ≡ x ++ (y ++ (z ++ w))
-  four-sections =
-      let lx = kx ∙ size-x in
-      let ly = ky ∙ size-y in
-      let lz = kz ∙ size-z in
-      let s₁ : v₁ ≡ x ++ drop a old = e₁ ∙ section-more [] x old old 0 a refl (kx ∙ part-size old 0 a (omega arith) (omega arith)) (omega arith) refl in
-      let s₂ : v₂ ≡ (x ++ y) ++ drop b old = e₂ ∙ section-more x y v₁ old a b lx ly ab s₁ in
-      let s₃ : v₃ ≡ ((x ++ y) ++ z) ++ drop c old = e₃ ∙ section-more (x ++ y) z v₂ old b c (simp length-append (omega arith)) lz bc s₂ in
-      e₄
-      ∙ section-more ((x ++ y) ++ z) w v₃ old c d (simp length-append (omega arith)) (kw ∙ size-w) cd s₃
-      ∙ ap (λ (l : List ℕ). (((x ++ y) ++ z) ++ w) ++ l) (ap (λ (k : ℕ). drop k old) (sym room) ∙ drop-length old)
-      ∙ append-nil (((x ++ y) ++ z) ++ w)
-      ∙ append-assoc (x ++ y) z w
-      ∙ append-assoc x y (z ++ w)
-
   -- with what each call writes
   pub filled-values : (P : Params) (e : ℕ) (secret packing challenge : List ℕ) → length secret ≡ P .n + P .m + P .m → a ≡ P .n + P .m → b - a ≡ P .m → c - b ≡ P .m → d - c ≡ P .m
       → x ≡ elementsAt packing ((e - 1) * a) (length (take (a - 0) (drop 0 old)))
@@ -157,9 +100,10 @@ module _ (x y z w old v₁ v₂ v₃ v₄ : List ℕ) (a b c d : ℕ) (ab : a �
       → v₄ ≡ elementsAt packing ((e - 1) * (P .n + P .m)) (P .n + P .m) ++ (unpack (P .m) challenge ++ (tIn P secret ++ replicate (P .m) 0))
   unfolding tIn
   filled-values P e secret packing challenge size ea eb ec ed ex ey ez ew =
-      four-sections
-      ∙ ap₂ (λ (u v : List ℕ). u ++ v) (ex ∙ ap (elementsAt packing ((e - 1) * a)) size-x ∙ ap (λ (k : ℕ). elementsAt packing ((e - 1) * k) k) ea)
-      (ap₂ (λ (u v : List ℕ). u ++ v) (ey ∙ ap (λ (k : ℕ). unpack k challenge) (size-y ∙ eb))
+      let s = four-sizes x y z old v₁ v₂ v₃ a b c d ab bc cd room e₁ e₂ e₃ kx ky kz in
+      four-sections x y z old v₁ v₂ v₃ a b c d ab bc cd room e₁ e₂ e₃ w v₄ e₄ (kx ∙ s .first-is) (ky ∙ s .second-is) (kz ∙ s .third-is) (kw ∙ s .fourth-is)
+      ∙ ap₂ (λ (u v : List ℕ). u ++ v) (ex ∙ ap (elementsAt packing ((e - 1) * a)) (s .first-is) ∙ ap (λ (k : ℕ). elementsAt packing ((e - 1) * k) k) ea)
+      (ap₂ (λ (u v : List ℕ). u ++ v) (ey ∙ ap (λ (k : ℕ). unpack k challenge) (s .second-is ∙ eb))
       (ap₂ (λ (u v : List ℕ). u ++ v)
-      (ez ∙ over-whole (take (a - P .n) (drop (P .n) secret)) (take (c - b) (drop b v₂)) (copied-size P secret a size ea ∙ sym (size-z ∙ ec)) ∙ copied-part P secret a ea)
-      (ew ∙ ap (λ (k : ℕ). replicate k 0) (size-w ∙ ed))))
+      (ez ∙ over-whole (take (a - P .n) (drop (P .n) secret)) (take (c - b) (drop b v₂)) (copied-size P secret a size ea ∙ sym (s .third-is ∙ ec)) ∙ copied-part P secret a ea)
+      (ew ∙ ap (λ (k : ℕ). replicate k 0) (s .fourth-is ∙ ed))))

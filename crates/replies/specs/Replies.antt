@@ -14,8 +14,8 @@ use Rattle.group.specs.Shares as shares
 use Rattle.answers.specs.Answers.{sharesOf, answered}
 use Rattle.vectors.specs.Elements.{elementsAt}
 use Rattle.biscuit.specs.Sign.{Signer, f, seeds, ε, αs, hidden}
-use Rattle.biscuit.specs.Room.{groups, leavesAt, challengesAt}
-use Rattle.passes.specs.Passes.{rootIn, tIn, HoldsSecret, HoldsCorrections}
+use Rattle.biscuit.specs.Room.{groups, leavesAt, challengesAt, rootIn}
+use Rattle.passes.specs.Passes.{tIn, HoldsSecret, HoldsCorrections}
 
 -- ---- what is lent
 

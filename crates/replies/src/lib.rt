@@ -1,6 +1,8 @@
 // The loops of signing over all repetitions once the challenges are drawn, algorithm 12: phase 3, which answers for every party, and of phase 5 the α of the hidden parties.
 // No secret picks a branch or an address; the numbers of the repetitions and of the hidden parties are public.
+use biscuit::VALUES;
 use group::Rep;
+use sets::MOST_EQUATIONS;
 use sets::Params;
 use sponge::Sponge;
 ghost use mathlib.Core.Path.{_≡_};
@@ -15,16 +17,10 @@ ghost use Rattle.forms.specs.Room.{HoldsCircuit, hiddenIn};
 ghost use Rattle.vectors.specs.Elements.{elementsAt, elementsPut};
 ghost use Rattle.refusals.specs.Refusals.{workLength};
 ghost use Rattle.biscuit.specs.Signature.{vectorCount};
-ghost use Rattle.biscuit.specs.Room.{Fits, groups, leavesAt, rootsAt, challengesAt};
+ghost use Rattle.biscuit.specs.Room.{Fits, groups, leavesAt, rootsAt, challengesAt, rootIn};
 ghost use Rattle.biscuit.specs.Sign.{Signer, σ₂};
-ghost use Rattle.passes.specs.Passes.{rootIn, seedsIn, tIn, HoldsRoots, Placed, Kept};
+ghost use Rattle.passes.specs.Passes.{seedsIn, tIn, HoldsRoots, Placed, Kept};
 ghost use Rattle.replies.specs.Replies.{Challenged, HoldsHidden, HoldsLeaves, repOf, valuesIn, answersIn, alphaIn, alphaAt, HoldsAlphas};
-
-// The most equations that a set has.
-const EQUATIONS: usize = 121;
-
-// The bytes of n + 4m elements at the largest set.
-const VALUES: usize = 602;
 
 // Phase 3, lines 25 to 34: the second hash takes every α and then every v of each repetition.
 pub fn answer_pass(
@@ -191,7 +187,7 @@ fn alpha_turn(
     let size = p.n + 4 * p.m;
     let m = p.m;
     let mut values = [0u8; VALUES];
-    let mut alpha = [0u8; EQUATIONS];
+    let mut alpha = [0u8; MOST_EQUATIONS];
     alpha_in(
         p,
         e,

@@ -31,6 +31,18 @@ const PUBLIC_KEYS: [usize; 7] = [0, 50, 50, 69, 69, 93, 93];
 
 const SIGNATURES: [usize; 7] = [0, 4758, 6726, 11349, 15129, 20192, 27348];
 
+// The most that a set has, which is what the last has: room for these is room for every set.
+pub const MOST_VARIABLES: usize = VARIABLES[ROWS - 1];
+
+pub const MOST_EQUATIONS: usize = EQUATIONS[ROWS - 1];
+
+pub const MOST_REPETITIONS: usize = REPETITIONS[ROWS - 1];
+
+// The bytes of the longest seed, and of the longest salt, hash or commitment, which have two seeds' length.
+pub const LONGEST_SEED: usize = BITS[ROWS - 1] / 8;
+
+pub const LONGEST_HASH: usize = 2 * LONGEST_SEED;
+
 // The parameters of a set; zeros where the number names none.
 pub fn params_of(set: usize) -> Params
     ensures { λ r. ⌜ r ≡ paramsOf set ⌝ }

@@ -3,43 +3,33 @@ use mathlib.Core.Path.{_≡_, refl, sym, ap, ap₂, _∙_, subst}
 use mathlib.Core.List.{List, _++_, append-assoc, append-nil}
 use Prim.Native.Nat.{ℕ, _+_, _-_, _*_, _≤_}
 use native.Mathlib.Omega.{arith}
-use lib.ListN.{length, take, drop, length-append, length-drop, drop-of-length-le}
-use lib.Seq.{take-at, drop-drop, length-take-le}
+use lib.ListN.{length, take, drop, length-append, drop-of-length-le}
+use lib.Seq.{take-at, take-all}
 use Rattle.memory.specs.Lists.{put}
-use Rattle.memory.proofs.Parts.{length-put, from-put, drop-put, lent-put}
+use Rattle.memory.proofs.Parts.{length-put, from-put, lent-put}
 use Rattle.field.specs.Packing.{pack, packedLength}
 use Rattle.sponge.specs.Sponge.{shake256}
+use Rattle.sponge.proofs.Laws.{length-shake256}
 use Rattle.sets.specs.Sets.{S, signatureLength}
 use Rattle.sets.specs.declared.Params.{Params}
-use Rattle.forms.specs.Room.{hiddenIn}
-use Rattle.forms.proofs.Room.{expanded-hidden}
-use Rattle.parties.specs.Repetition as repetition
-use Rattle.biscuit.specs.Room.{Fits}
+use Rattle.biscuit.specs.Room.{Fits, rootsAt}
 use Rattle.biscuit.specs.Signature.{repeated, shown, vectors, vectorCount, headLength, packingAt, written}
-use Rattle.biscuit.specs.Sign as sign
-use Rattle.biscuit.specs.Sign.{Signer, h₂, signed}
-use Rattle.passes.specs.Passes.{HoldsCorrections}
-use Rattle.replies.specs.Replies.{HoldsHidden}
-use Rattle.signing.specs.Signing.{HoldsSigner, HoldsChallenges, Hashed}
+use Rattle.biscuit.specs.Sign.{Signer, h₁, h₂, signed}
+use Rattle.biscuit.proofs.Parts.{length-lent, drop-behind-put}
+use Rattle.passes.specs.Passes.{HoldsRoots}
+use Rattle.replies.specs.Replies.{Challenged, HoldsHidden}
+use Rattle.replies.proofs.Expanded.{hidden-expanded}
+use Rattle.signing.specs.Signing.{HoldsSigner, HoldsHashes}
 use Rattle.signing.proofs.Assembling.{sections-written}
 use Rattle.signing.proofs.Sizes.{sections}
 
 module _ (P : Params) (fits : Fits P) where
-  -- the bytes of the second hash's tape are the hidden parties
-  pub hidden-expanded : (signer : Signer) (msg h2 hidden : List ℕ) (n : ℕ) → n ≡ P .tau → h2 ≡ h₂ P signer msg → hidden ≡ shake256 h2 n → HoldsHidden P signer msg hidden
-  unfolding HoldsHidden sign.hidden repetition.hiddenParty
-  hidden-expanded signer msg h2 hidden n many same tape e h g =
-      let sixteen = fits .sixteen in
-      ap (λ (x : List ℕ). hiddenIn (P .l) x e) tape
-      ∙ expanded-hidden h2 (P .l) e n (omega arith) (fits .levels) (omega arith)
-      ∙ ap (λ (x : List ℕ). repetition.hiddenParty P x e) same
-
   module _ (x salt h1 h2 : List ℕ) (size : length x ≡ signatureLength P) (salts : length salt ≡ 2 * S P) (firsts : length h1 ≡ 2 * S P) (seconds : length h2 ≡ 2 * S P) where
     head-size : length (salt ++ (h1 ++ h2)) ≡ headLength P
     head-size = let s = sections P .head in let a = length-append h1 h2 in let b = length-append salt (h1 ++ h2) in omega arith
 
-    pub head-fits : length salt + length h1 + length h2 ≤ length x
-    head-fits = let k = sections P in let s = k .head in let b = k .body in let w = k .whole in omega arith
+    pub head-parts-fit : length salt + length h1 + length h2 ≤ length x
+    head-parts-fit = let k = sections P in let s = k .head in let b = k .body in let w = k .whole in omega arith
 
     head-room : 0 + length (salt ++ (h1 ++ h2)) ≤ length x
     head-room = let k = sections P in let s = head-size in let b = k .body in let w = k .whole in omega arith
@@ -48,22 +38,13 @@ module _ (P : Params) (fits : Fits P) where
     headed-size y e = ap length e ∙ length-put x 0 (salt ++ (h1 ++ h2)) head-room ∙ size
 
     packing-behind : drop (packingAt P) (put x 0 (salt ++ (h1 ++ h2))) ≡ drop (packingAt P) x
-    packing-behind =
-        let s = head-size in
-        let b = sections P .body in
-        let head = salt ++ (h1 ++ h2) in
-        let n : packingAt P ≡ 0 + length head + (packingAt P - length head) = omega arith in
-        ap (λ (k : ℕ). drop k (put x 0 head)) n
-        ∙ sym (drop-drop (packingAt P - length head) (0 + length head) (put x 0 head))
-        ∙ ap (drop (packingAt P - length head)) (drop-put x 0 head head-room)
-        ∙ drop-drop (packingAt P - length head) (0 + length head) x
-        ∙ ap (λ (k : ℕ). drop k x) (sym n)
+    packing-behind = let s = head-size in let b = sections P .body in drop-behind-put x 0 (salt ++ (h1 ++ h2)) (packingAt P) head-room (omega arith)
 
     head-before : take (headLength P) (put x 0 (salt ++ (h1 ++ h2))) ≡ salt ++ (h1 ++ h2)
     head-before = ap (take (headLength P)) (from-put x 0 (salt ++ (h1 ++ h2)) head-room) ∙ take-at (salt ++ (h1 ++ h2)) _ (headLength P) head-size
 
     -- the sections one behind the other
-    whole-written : (signer : Signer) (msg : List ℕ) → signer .salt ≡ salt → h1 ≡ sign.h₁ P signer msg → h2 ≡ h₂ P signer msg
+    whole-written : (signer : Signer) (msg : List ℕ) → signer .salt ≡ salt → h1 ≡ h₁ P signer msg → h2 ≡ h₂ P signer msg
         → (salt ++ (h1 ++ h2)) ++ (repeated (P .tau) (λ e. shown (signed P signer msg .opening e)) ++ pack (vectors P (signed P signer msg))) ≡ written P (signed P signer msg)
     unfolding signed
     whole-written signer msg salted first second =
@@ -72,16 +53,18 @@ module _ (P : Params) (fits : Fits P) where
 
     -- from the promise of the opening
     pub closed : (secret hidden w y z : List ℕ) (n : ℕ) → n ≡ P .tau → hidden ≡ shake256 h2 n → y ≡ put x 0 (salt ++ (h1 ++ h2))
-        → ((signer : Signer) (msg : List ℕ) → HoldsSigner P signer salt secret w → HoldsChallenges P signer msg w → HoldsHidden P signer msg hidden
-        → HoldsCorrections P signer (P .tau) (drop (packingAt P) y)
+        → ((signer : Signer) (msg : List ℕ) → Challenged P signer msg salt secret (drop (packingAt P) y) w → HoldsRoots P signer (drop (rootsAt P) w) → HoldsHidden P signer msg hidden
         → z ≡ take (headLength P) y ++ (repeated (P .tau) (λ e. shown (signed P signer msg .opening e)) ++ pack (vectors P (signed P signer msg))))
-        → (signer : Signer) (msg : List ℕ) → Hashed P signer msg salt secret h1 h2 (drop (packingAt P) x) w → z ≡ written P (signed P signer msg)
+        → (signer : Signer) (msg : List ℕ) → HoldsHashes P signer msg salt secret h1 h2 (drop (packingAt P) x) w → z ≡ written P (signed P signer msg)
     closed secret hidden w y z n many tape headed opens signer msg known =
-        opens signer msg (known .held) (known .challenged) (hidden-expanded signer msg h2 hidden n many (known .second) tape)
-        (subst (HoldsCorrections P signer (P .tau)) (sym (ap (drop (packingAt P)) headed ∙ packing-behind)) (known .corrected))
+        let all = tape ∙ ap₂ shake256 (known .second) many in
+        opens signer msg
+        (subst (λ (q : List ℕ). Challenged P signer msg salt secret q w) (sym (ap (drop (packingAt P)) headed ∙ packing-behind)) (known .challenged))
+        (known .rooted)
+        (hidden-expanded P fits signer msg hidden (ap (take (P .tau)) all ∙ take-all (P .tau) _ (let l = length-shake256 (h₂ P signer msg) (P .tau) in omega arith)))
         ∙ ap (λ (u : List ℕ). u ++ (repeated (P .tau) (λ e. shown (signed P signer msg .opening e)) ++ pack (vectors P (signed P signer msg))))
         (ap (take (headLength P)) headed ∙ head-before)
-        ∙ whole-written signer msg (known .held .holds-secret .salted) (known .first) (known .second)
+        ∙ whole-written signer msg (known .challenged .held .salted) (known .first) (known .second)
 
 -- ---- the corrections in the packing, before anything else is written
 
@@ -89,8 +72,7 @@ module _ (P : Params) (x : List ℕ) (size : length x ≡ signatureLength P) (a 
   pub packing-part : length (take (e - a) (drop a x)) ≡ packedLength (vectorCount P)
   packing-part =
       let w = sections P .whole in
-      let n : e - a ≡ packedLength (vectorCount P) = omega arith in
-      length-take-le (e - a) (drop a x) (simp length-drop (omega arith)) ∙ n
+      length-lent x a e (omega arith) (omega arith) ∙ (let n : e - a ≡ packedLength (vectorCount P) = omega arith in n)
 
   module _ (q : List ℕ) (kept : length q ≡ length (take (e - a) (drop a x))) where
     packed-put : take a x ++ (q ++ drop (e - a) (drop a x)) ≡ put x a q
@@ -114,8 +96,8 @@ module _ (P : Params) (x : List ℕ) (size : length x ≡ signatureLength P) (a 
 
     -- from the promises of both halves
     pub hashed-written : (msg salt secret h1 h2 w v z : List ℕ)
-        → ((signer : Signer) → HoldsSigner P signer salt secret w → Hashed P signer msg salt secret h1 h2 q v)
-        → ((signer : Signer) (msg : List ℕ) → Hashed P signer msg salt secret h1 h2 (drop (packingAt P) (take a x ++ (q ++ drop (e - a) (drop a x)))) v → z ≡ written P (signed P signer msg))
+        → ((signer : Signer) → HoldsSigner P signer salt secret w → HoldsHashes P signer msg salt secret h1 h2 q v)
+        → ((signer : Signer) (msg : List ℕ) → HoldsHashes P signer msg salt secret h1 h2 (drop (packingAt P) (take a x ++ (q ++ drop (e - a) (drop a x)))) v → z ≡ written P (signed P signer msg))
         → (signer : Signer) → HoldsSigner P signer salt secret w → z ≡ written P (signed P signer msg)
     hashed-written msg salt secret h1 h2 w v z commits opens signer held =
-        opens signer msg (subst (λ (l : List ℕ). Hashed P signer msg salt secret h1 h2 l v) (sym packed-behind) (commits signer held))
+        opens signer msg (subst (λ (l : List ℕ). HoldsHashes P signer msg salt secret h1 h2 l v) (sym packed-behind) (commits signer held))

@@ -5,7 +5,6 @@ use Prim.Native.Nat.{ℕ, _+_, _-_, _*_, _≤_}
 use native.Mathlib.Omega.{arith}
 use lib.ListN.{length, take, drop, length-drop}
 use lib.Seq.{take-at, drop-at, drop-drop, take-append-le, drop-append-le}
-use Rattle.memory.proofs.Lists.{room}
 use Rattle.sets.specs.Sets.{S}
 use Rattle.sets.specs.declared.Params.{Params}
 use Rattle.sponge.specs.declared.Sponge.{Sponge}
@@ -15,11 +14,12 @@ use Rattle.sponge.proofs.Laws.{absorbed-append, given-append, given-shake256, l
 use Rattle.hashes.specs.Hashes.{prf}
 use Rattle.forms.specs.Room.{HoldsCircuit}
 use Rattle.refusals.specs.Refusals.{workLength}
-use Rattle.biscuit.specs.Room.{Fits, leavesAt, rootsAt, challengesAt}
+use Rattle.biscuit.specs.Room.{Fits, leavesAt, rootsAt, challengesAt, rootIn}
 use Rattle.biscuit.specs.Sign.{f, signerOf, drawn}
-use Rattle.passes.specs.Passes.{HoldsSecret, HoldsRoots, rootIn}
+use Rattle.biscuit.proofs.Repeated.{among}
+use Rattle.passes.specs.Passes.{HoldsSecret, HoldsRoots}
 use Rattle.signing.specs.Signing.{HoldsSigner}
-use Rattle.signing.proofs.Opening.{taken-size, back-size, back-circuit, back-roots}
+use Rattle.signing.proofs.Rooted.{taken-size, back-circuit, back-roots}
 
 module _ (P : Params) (sk rnd msg : List ℕ) where
   -- the tape, by the steps that make it
@@ -50,18 +50,12 @@ module _ (P : Params) (sk rnd msg : List ℕ) where
 -- ---- the roots in work
 
 module _ (P : Params) (fits : Fits P) (sk rnd msg w : List ℕ) (size : length w ≡ workLength) (a b : ℕ) (at : a ≡ rootsAt P) (to : b ≡ challengesAt P) where
-  pub roots-part : length (take (b - a) (drop a w)) ≡ P .tau * S P
-  roots-part = taken-size P fits w size a b at to
-
   module _ (l : List ℕ) (drew : l ≡ drop (2 * S P) (drawn P sk rnd msg)) (kept : length l ≡ length (take (b - a) (drop a w))) where
-    pub drawn-size : length (take a w ++ (l ++ drop (b - a) (drop a w))) ≡ workLength
-    drawn-size = back-size P fits w size a b at to l (kept ∙ roots-part)
-
     root-drawn : (e : ℕ) → 1 ≤ e → e ≤ P .tau → signerOf P sk rnd msg .root e ≡ rootIn (S P) (l ++ drop (rootsAt P + length l) w) e
     unfolding signerOf rootIn
     root-drawn e h g =
-        let r = room (e - 1) (P .tau) (S P) (omega arith) in
-        let n = kept ∙ roots-part in
+        let r = among e (P .tau) (S P) h g in
+        let n = kept ∙ taken-size P fits w size a b at to in
         sym (ap (take (S P)) (drop-append-le ((e - 1) * S P) l _ (omega arith))
         ∙ take-append-le (S P) (drop ((e - 1) * S P) l) _ (simp length-drop (omega arith))
         ∙ ap (λ (x : List ℕ). take (S P) (drop ((e - 1) * S P) x)) drew
@@ -74,6 +68,6 @@ module _ (P : Params) (fits : Fits P) (sk rnd msg w : List ℕ) (size : length w
     unfolding HoldsRoots
     signer-drawn salt secret same holds circuit = record {
       holds-secret = subst (λ (x : List ℕ). HoldsSecret P (signerOf P sk rnd msg) x secret) (sym same) holds;
-      holds-roots = λ e h g. root-drawn e h g ∙ ap (λ (x : List ℕ). rootIn (S P) x e) (sym (back-roots P fits w size a b at to l (kept ∙ roots-part)));
-      holds-circuit = subst (HoldsCircuit (P .n) (P .m) (f P (signerOf P sk rnd msg))) (sym (back-circuit P fits w size a b at to l (kept ∙ roots-part))) circuit;
+      holds-roots = λ e h g. root-drawn e h g ∙ ap (λ (x : List ℕ). rootIn (S P) x e) (sym (back-roots P fits w size a b at to l (kept ∙ taken-size P fits w size a b at to)));
+      holds-circuit = subst (HoldsCircuit (P .n) (P .m) (f P (signerOf P sk rnd msg))) (sym (back-circuit P fits w size a b at to l (kept ∙ taken-size P fits w size a b at to))) circuit;
     }

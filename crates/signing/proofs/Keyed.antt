@@ -2,12 +2,11 @@
 use mathlib.Core.Path.{_≡_, refl, sym, ap, _∙_, subst}
 use mathlib.Core.Bool.{Bool, true, false, cond}
 use mathlib.Core.List.{List, _++_}
-use Prim.Native.Nat.{ℕ, _+_, _-_, _≤_}
-use native.Mathlib.Nat.{sub-zero, le-refl}
-use native.Mathlib.Omega.{arith}
-use lib.ListN.{length, take, drop, length-append, length-drop}
-use lib.Seq.{take-at, length-take-le}
-use Rattle.field.specs.Packing.{Elements, unpack}
+use Prim.Native.Nat.{ℕ, _+_, _-_}
+use native.Mathlib.Nat.{le-refl}
+use lib.ListN.{length, take, drop}
+use lib.Seq.{take-at}
+use Rattle.field.specs.Packing.{Elements}
 use Rattle.field.proofs.Packing.{unpack-elements}
 use Rattle.sponge.specs.Sponge.{shake256}
 use Rattle.sponge.proofs.Laws.{length-shake256}
@@ -18,7 +17,7 @@ use Rattle.forms.proofs.Room.{expanded-circuit}
 use Rattle.biscuit.specs.Keys as keys
 use Rattle.biscuit.specs.Keys.{packedSecret, secretKeyOf}
 use Rattle.biscuit.specs.Room.{leavesAt}
-use Rattle.biscuit.specs.Sign.{f, signed, signerOf, sign}
+use Rattle.biscuit.specs.Sign.{f, signed, signerOf, sign, signature}
 use Rattle.biscuit.specs.Signature.{written}
 use Rattle.passes.specs.Passes.{HoldsSecret, sIn, tIn, yIn}
 
@@ -44,17 +43,14 @@ module _ (P : Params) (sk rnd msg : List ℕ) where
       (sym (take-at circuit (drop (e - 0) work) (circuitLength (P .n) (P .m)) (ap length h ∙ length-shake256 _ _) ∙ h))
       (expanded-circuit (take (S P) sk) (P .n) (P .m) (circuitLength (P .n) (P .m)) (le-refl _))
 
+  -- the bytes that algorithm 12 gives are those of what its signer signs
+  pub signature-signed : written P (signed P (signerOf P sk rnd msg) msg) ≡ signature P sk rnd msg
+  unfolding signature sign
+  signature-signed = refl
+
   -- what was written is the signature, and what was not is as before
-  pub wrote : (x old : List ℕ) (answer : Bool) → x ≡ written P (signed P (signerOf P sk rnd msg) msg) → true ≡ answer → x ≡ cond answer (written P (sign P sk rnd msg)) old
-  unfolding sign
-  wrote x old answer e t = e ∙ ap (λ (b : Bool). cond b (written P (signed P (signerOf P sk rnd msg) msg)) old) t
+  pub wrote : (x old : List ℕ) (answer : Bool) → x ≡ signature P sk rnd msg → true ≡ answer → x ≡ cond answer (signature P sk rnd msg) old
+  wrote x old answer e t = e ∙ ap (λ (b : Bool). cond b (signature P sk rnd msg) old) t
 
-  pub left-alone : (old : List ℕ) (answer : Bool) → false ≡ answer → old ≡ cond answer (written P (sign P sk rnd msg)) old
-  left-alone old answer t = ap (λ (b : Bool). cond b (written P (sign P sk rnd msg)) old) t
-
--- work whose first bytes were lent is as long as before
-pub lent-long : (work circuit : List ℕ) (e n : ℕ) → e ≤ length work → length circuit ≡ length (take (e - 0) work) → length work ≡ n → length (circuit ++ drop (e - 0) work) ≡ n
-lent-long work circuit e n h l w =
-    let z = sub-zero e in
-    let t = ap (λ (i : ℕ). length (take i work)) z ∙ length-take-le e work h in
-    simp (length-append, length-drop) (omega arith)
+  pub left-alone : (old : List ℕ) (answer : Bool) → false ≡ answer → old ≡ cond answer (signature P sk rnd msg) old
+  left-alone old answer t = ap (λ (b : Bool). cond b (signature P sk rnd msg) old) t

@@ -1,7 +1,8 @@
 // Signing, algorithm 12 of the submission: salt and roots are drawn, the two passes over all repetitions give the hashes, and each section of the signature is written
 // through the part lent for it. Whether the key is consistent picks a branch, and is told; no other secret does, and secrets pick addresses in the table of products alone.
-mod steps;
-
+use keys::SECRET;
+use sets::LONGEST_HASH;
+use sets::MOST_REPETITIONS;
 use sets::Params;
 use sponge::Sponge;
 ghost use mathlib.Core.Path.{_≡_};
@@ -15,22 +16,13 @@ ghost use Rattle.sets.specs.Sets.{S, secretKeyLength, signatureLength};
 ghost use Rattle.forms.specs.Room.{HoldsCircuit};
 ghost use Rattle.refusals.specs.Refusals.{workLength};
 ghost use Rattle.biscuit.specs.Keys.{consistentKey};
-ghost use Rattle.biscuit.specs.Room.{Fits, leavesAt};
+ghost use Rattle.biscuit.specs.Room.{Fits, leavesAt, rootsAt};
 ghost use Rattle.biscuit.specs.Signature.{repeated, shown, vectors, vectorCount, headLength, packingAt, written};
-ghost use Rattle.biscuit.specs.Sign.{Signer, f, h₁, signed, signerOf, drawn, sign};
-ghost use Rattle.passes.specs.Passes.{HoldsSecret, HoldsCorrections};
-ghost use Rattle.replies.specs.Replies.{HoldsHidden};
-ghost use Rattle.signing.specs.Signing.{HoldsSigner, HoldsChallenges, Hashed};
-
-// The bytes of the longest salt, of the longest hash, and the most repetitions.
-const SALT: usize = 64;
-
-const HASH: usize = 64;
-
-const REPETITIONS: usize = 73;
-
-// The elements of the longest secret key: s, t and y.
-const SECRET: usize = 360;
+ghost use Rattle.biscuit.specs.Sign as sign;
+ghost use Rattle.biscuit.specs.Sign.{Signer, f, h₁, signed, signerOf, drawn};
+ghost use Rattle.passes.specs.Passes.{HoldsSecret, HoldsRoots, HoldsCorrections};
+ghost use Rattle.replies.specs.Replies.{Challenged, HoldsHidden};
+ghost use Rattle.signing.specs.Signing.{HoldsSigner, HoldsHashes};
 
 // The signature of the message by the secret key, where that is consistent; otherwise nothing is written.
 pub fn sign(
@@ -42,7 +34,7 @@ pub fn sign(
     work: &mut [u8],
 ) -> bool
     requires { ⌜ (Fits p) × (length (now sk) ≡ secretKeyLength p) × (length (now signature) ≡ signatureLength p) × (length (now work) ≡ workLength) ⌝ }
-    ensures { λ r. ⌜ (r ≡ consistentKey p (now (sk .entry))) × (now (signature .exit) ≡ cond (consistentKey p (now (sk .entry))) (written p (sign p (now (sk .entry)) (now (random .entry)) (now (message .entry)))) (now (signature .entry))) ⌝ }
+    ensures { λ r. ⌜ (r ≡ consistentKey p (now (sk .entry))) × (now (signature .exit) ≡ cond (consistentKey p (now (sk .entry))) (sign.signature p (now (sk .entry)) (now (random .entry)) (now (message .entry))) (now (signature .entry))) ⌝ }
 {
     let n = p.n + p.m + p.m;
     let mut secret = [0u8; SECRET];
@@ -60,7 +52,7 @@ fn sign_in(
     work: &mut [u8],
 ) -> bool
     requires { ⌜ (Fits p) × (length (now sk) ≡ secretKeyLength p) × (length (now secret) ≡ p .n + p .m + p .m) × (length (now signature) ≡ signatureLength p) × (length (now work) ≡ workLength) ⌝ }
-    ensures { λ r. ⌜ (r ≡ consistentKey p (now (sk .entry))) × (now (signature .exit) ≡ cond (consistentKey p (now (sk .entry))) (written p (sign p (now (sk .entry)) (now (random .entry)) (now (message .entry)))) (now (signature .entry))) ⌝ }
+    ensures { λ r. ⌜ (r ≡ consistentKey p (now (sk .entry))) × (now (signature .exit) ≡ cond (consistentKey p (now (sk .entry))) (sign.signature p (now (sk .entry)) (now (random .entry)) (now (message .entry))) (now (signature .entry))) ⌝ }
 {
     let signed = sign_with(p, sk, message, random, secret, signature, work);
     memory::clear(secret);
@@ -78,7 +70,7 @@ fn sign_with(
     work: &mut [u8],
 ) -> bool
     requires { ⌜ (Fits p) × (length (now sk) ≡ secretKeyLength p) × (length (now secret) ≡ p .n + p .m + p .m) × (length (now signature) ≡ signatureLength p) × (length (now work) ≡ workLength) ⌝ }
-    ensures { λ r. ⌜ (r ≡ consistentKey p (now (sk .entry))) × (now (signature .exit) ≡ cond (consistentKey p (now (sk .entry))) (written p (sign p (now (sk .entry)) (now (random .entry)) (now (message .entry)))) (now (signature .entry))) ⌝ }
+    ensures { λ r. ⌜ (r ≡ consistentKey p (now (sk .entry))) × (now (signature .exit) ≡ cond (consistentKey p (now (sk .entry))) (sign.signature p (now (sk .entry)) (now (random .entry)) (now (message .entry))) (now (signature .entry))) ⌝ }
 {
     let e = forms::circuit_len(p.n, p.m);
     let consistent = keys::consistent(p, sk, secret, &mut work[0..e]);
@@ -100,10 +92,10 @@ fn write(
     work: &mut [u8],
 )
     requires { ⌜ (Fits p) × (length (now secret) ≡ p .n + p .m + p .m) × (Elements (now secret)) × (length (now signature) ≡ signatureLength p) × (length (now work) ≡ workLength) ⌝ }
-    ensures { λ r. ⌜ (let signer = signerOf p (now (sk .entry)) (now (random .entry)) (now (message .entry)) in HoldsSecret p signer (signer .salt) (now (secret .entry)) → HoldsCircuit (p .n) (p .m) (f p signer) (take (leavesAt p) (now (work .entry))) → now (signature .exit) ≡ written p (signed p signer (now (message .entry)))) ⌝ }
+    ensures { λ r. ⌜ (let signer = signerOf p (now (sk .entry)) (now (random .entry)) (now (message .entry)) in HoldsSecret p signer (signer .salt) (now (secret .entry)) → HoldsCircuit (p .n) (p .m) (f p signer) (take (leavesAt p) (now (work .entry))) → now (signature .exit) ≡ sign.signature p (now (sk .entry)) (now (random .entry)) (now (message .entry))) ⌝ }
 {
     let n = p.bits / 8 * 2;
-    let mut salt = [0u8; SALT];
+    let mut salt = [0u8; LONGEST_HASH];
     write_salted(
         p,
         sk,
@@ -128,7 +120,7 @@ fn write_salted(
     work: &mut [u8],
 )
     requires { ⌜ (Fits p) × (length (now secret) ≡ p .n + p .m + p .m) × (Elements (now secret)) × (length (now salt) ≡ 2 * S p) × (length (now signature) ≡ signatureLength p) × (length (now work) ≡ workLength) ⌝ }
-    ensures { λ r. ⌜ (let signer = signerOf p (now (sk .entry)) (now (random .entry)) (now (message .entry)) in HoldsSecret p signer (signer .salt) (now (secret .entry)) → HoldsCircuit (p .n) (p .m) (f p signer) (take (leavesAt p) (now (work .entry))) → now (signature .exit) ≡ written p (signed p signer (now (message .entry)))) ⌝ }
+    ensures { λ r. ⌜ (let signer = signerOf p (now (sk .entry)) (now (random .entry)) (now (message .entry)) in HoldsSecret p signer (signer .salt) (now (secret .entry)) → HoldsCircuit (p .n) (p .m) (f p signer) (take (leavesAt p) (now (work .entry))) → now (signature .exit) ≡ sign.signature p (now (sk .entry)) (now (random .entry)) (now (message .entry))) ⌝ }
 {
     let map = biscuit::layout_of(p);
     let a = map.roots;
@@ -161,8 +153,8 @@ fn write_drawn(
     ensures { λ r. ⌜ ((signer : Signer) → HoldsSigner p signer (now (salt .entry)) (now (secret .entry)) (now (work .entry)) → now (signature .exit) ≡ written p (signed p signer (now (message .entry)))) ⌝ }
 {
     let n = p.bits / 8 * 2;
-    let mut h1 = [0u8; HASH];
-    let mut h2 = [0u8; HASH];
+    let mut h1 = [0u8; LONGEST_HASH];
+    let mut h2 = [0u8; LONGEST_HASH];
     write_hashed(
         p,
         message,
@@ -207,7 +199,7 @@ fn commit(
     work: &mut [u8],
 )
     requires { ⌜ (Fits p) × (length (now secret) ≡ p .n + p .m + p .m) × (Elements (now secret)) × (length (now salt) ≡ 2 * S p) × (length (now h1) ≡ 2 * S p) × (length (now h2) ≡ 2 * S p) × (length (now packing) ≡ packedLength (vectorCount p)) × (length (now work) ≡ workLength) ⌝ }
-    ensures { λ r. ⌜ ((signer : Signer) → HoldsSigner p signer (now (salt .entry)) (now (secret .entry)) (now (work .entry)) → Hashed p signer (now (message .entry)) (now (salt .entry)) (now (secret .entry)) (now (h1 .exit)) (now (h2 .exit)) (now (packing .exit)) (now (work .exit))) ⌝ }
+    ensures { λ r. ⌜ ((signer : Signer) → HoldsSigner p signer (now (salt .entry)) (now (secret .entry)) (now (work .entry)) → HoldsHashes p signer (now (message .entry)) (now (salt .entry)) (now (secret .entry)) (now (h1 .exit)) (now (h2 .exit)) (now (packing .exit)) (now (work .exit))) ⌝ }
 {
     let start = hashes::first(salt).absorb(message);
     let full = passes::commit_pass(start, p, salt, secret, packing, work);
@@ -226,14 +218,14 @@ fn answer(
     work: &mut [u8],
 )
     requires { ⌜ (Fits p) × (length (now secret) ≡ p .n + p .m + p .m) × (Elements (now secret)) × (length (now salt) ≡ 2 * S p) × (length (now h2) ≡ 2 * S p) × (length (now packing) ≡ packedLength (vectorCount p)) × (length (now work) ≡ workLength) ⌝ }
-    ensures { λ r. ⌜ ((signer : Signer) (msg : List ℕ) → HoldsSigner p signer (now (salt .entry)) (now (secret .entry)) (now (work .entry)) → now (h1 .entry) ≡ h₁ p signer msg → HoldsCorrections p signer (p .tau) (now (packing .entry)) → Hashed p signer msg (now (salt .entry)) (now (secret .entry)) (now (h1 .entry)) (now (h2 .exit)) (now (packing .entry)) (now (work .exit))) ⌝ }
+    ensures { λ r. ⌜ ((signer : Signer) (msg : List ℕ) → HoldsSigner p signer (now (salt .entry)) (now (secret .entry)) (now (work .entry)) → now (h1 .entry) ≡ h₁ p signer msg → HoldsCorrections p signer (p .tau) (now (packing .entry)) → HoldsHashes p signer msg (now (salt .entry)) (now (secret .entry)) (now (h1 .entry)) (now (h2 .exit)) (now (packing .entry)) (now (work .exit))) ⌝ }
 {
     let map = biscuit::layout_of(p);
     let a = map.challenges;
     let e = map.end;
     forms::tape_bytes(h1, &mut work[a..e]);
     let start = hashes::second(salt, h1);
-    let full = steps::answer_pass(start, p, salt, secret, packing, work);
+    let full = replies::answer_pass(start, p, salt, secret, packing, work);
     full.finish().squeeze(h2);
 }
 
@@ -248,10 +240,10 @@ fn open(
     work: &mut [u8],
 )
     requires { ⌜ (Fits p) × (length (now secret) ≡ p .n + p .m + p .m) × (Elements (now secret)) × (length (now salt) ≡ 2 * S p) × (length (now h1) ≡ 2 * S p) × (length (now h2) ≡ 2 * S p) × (length (now signature) ≡ signatureLength p) × (length (now work) ≡ workLength) ⌝ }
-    ensures { λ r. ⌜ ((signer : Signer) (msg : List ℕ) → Hashed p signer msg (now (salt .entry)) (now (secret .entry)) (now (h1 .entry)) (now (h2 .entry)) (drop (packingAt p) (now (signature .entry))) (now (work .entry)) → now (signature .exit) ≡ written p (signed p signer msg)) ⌝ }
+    ensures { λ r. ⌜ ((signer : Signer) (msg : List ℕ) → HoldsHashes p signer msg (now (salt .entry)) (now (secret .entry)) (now (h1 .entry)) (now (h2 .entry)) (drop (packingAt p) (now (signature .entry))) (now (work .entry)) → now (signature .exit) ≡ written p (signed p signer msg)) ⌝ }
 {
     let n = p.tau;
-    let mut hidden = [0u8; REPETITIONS];
+    let mut hidden = [0u8; MOST_REPETITIONS];
     open_with(p, secret, salt, h1, h2, &mut hidden[0..n], signature, work);
 }
 
@@ -267,7 +259,7 @@ fn open_with(
     work: &mut [u8],
 )
     requires { ⌜ (Fits p) × (length (now secret) ≡ p .n + p .m + p .m) × (Elements (now secret)) × (length (now salt) ≡ 2 * S p) × (length (now h1) ≡ 2 * S p) × (length (now h2) ≡ 2 * S p) × (length (now hidden) ≡ p .tau) × (length (now signature) ≡ signatureLength p) × (length (now work) ≡ workLength) ⌝ }
-    ensures { λ r. ⌜ ((signer : Signer) (msg : List ℕ) → Hashed p signer msg (now (salt .entry)) (now (secret .entry)) (now (h1 .entry)) (now (h2 .entry)) (drop (packingAt p) (now (signature .entry))) (now (work .entry)) → now (signature .exit) ≡ written p (signed p signer msg)) ⌝ }
+    ensures { λ r. ⌜ ((signer : Signer) (msg : List ℕ) → HoldsHashes p signer msg (now (salt .entry)) (now (secret .entry)) (now (h1 .entry)) (now (h2 .entry)) (drop (packingAt p) (now (signature .entry))) (now (work .entry)) → now (signature .exit) ≡ written p (signed p signer msg)) ⌝ }
 {
     forms::tape_bytes(h2, hidden);
     write_head(salt, h1, h2, signature);
@@ -297,7 +289,7 @@ fn open_hidden(
     work: &mut [u8],
 )
     requires { ⌜ (Fits p) × (length (now secret) ≡ p .n + p .m + p .m) × (Elements (now secret)) × (length (now salt) ≡ 2 * S p) × (length (now hidden) ≡ p .tau) × (length (now signature) ≡ signatureLength p) × (length (now work) ≡ workLength) ⌝ }
-    ensures { λ r. ⌜ ((signer : Signer) (msg : List ℕ) → HoldsSigner p signer (now (salt .entry)) (now (secret .entry)) (now (work .entry)) → HoldsChallenges p signer msg (now (work .entry)) → HoldsHidden p signer msg (now (hidden .entry)) → HoldsCorrections p signer (p .tau) (drop (packingAt p) (now (signature .entry))) → now (signature .exit) ≡ take (headLength p) (now (signature .entry)) ++ (repeated (p .tau) (λ e. shown (signed p signer msg .opening e)) ++ pack (vectors p (signed p signer msg)))) ⌝ }
+    ensures { λ r. ⌜ ((signer : Signer) (msg : List ℕ) → Challenged p signer msg (now (salt .entry)) (now (secret .entry)) (drop (packingAt p) (now (signature .entry))) (now (work .entry)) → HoldsRoots p signer (drop (rootsAt p) (now (work .entry))) → HoldsHidden p signer msg (now (hidden .entry)) → now (signature .exit) ≡ take (headLength p) (now (signature .entry)) ++ (repeated (p .tau) (λ e. shown (signed p signer msg .opening e)) ++ pack (vectors p (signed p signer msg)))) ⌝ }
 {
     let map = biscuit::layout_of(p);
     let s = p.bits / 8;
@@ -307,5 +299,5 @@ fn open_hidden(
     let c = map.roots;
     let d = map.challenges;
     opening::show_all(p, salt, hidden, &mut work[c..d], &mut signature[a..b]);
-    steps::alpha_pass(p, salt, secret, hidden, &mut signature[b..e], work);
+    replies::alpha_pass(p, salt, secret, hidden, &mut signature[b..e], work);
 }

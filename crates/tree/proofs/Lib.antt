@@ -6,3 +6,4 @@ pub mod Laying
 pub mod Walking
 pub mod Around
 pub mod Comparisons
+pub mod OneOutcome

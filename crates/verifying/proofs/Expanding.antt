@@ -4,11 +4,10 @@ use mathlib.Core.Path.{_≡_, sym, ap, ap₂, _∙_, subst}
 use mathlib.Core.List.{List, _++_}
 use Prim.Native.Nat.{ℕ, _+_, _-_, _*_, _≤_}
 use native.Mathlib.Omega.{arith}
-use lib.ListN.{length, take, drop, length-append, length-drop}
-use lib.Seq.{take-at, take-take, length-take-le}
+use lib.ListN.{length, take, drop}
+use lib.Seq.{take-at}
 use Rattle.memory.specs.Lists.{put}
-use Rattle.memory.proofs.Lists.{room}
-use Rattle.memory.proofs.Parts.{lent-put, take-put, mid-put}
+use Rattle.memory.proofs.Parts.{lent-put, mid-put}
 use Rattle.field.specs.Packing.{packedLength}
 use Rattle.sponge.specs.Sponge.{shake256}
 use Rattle.sets.specs.Sets.{S}
@@ -20,26 +19,29 @@ use Rattle.biscuit.specs.Keys.{circuit, publicKeyOf}
 use Rattle.biscuit.specs.Signature.{extracted}
 use Rattle.biscuit.specs.Verify.{f, ε, hidden}
 use Rattle.biscuit.specs.Room.{leavesAt, challengesAt, roomEnd, Fits}
-use Rattle.verifying.specs.Turns.{circuitOf, challengesOf}
-use Rattle.verifying.proofs.Sizes.{ordered, leaves-is, challenges-size}
+use Rattle.biscuit.proofs.Parts.{length-lent, length-first, length-first-back, take-before-put}
+use Rattle.biscuit.proofs.Repeated.{among}
+use Rattle.biscuit.proofs.Room.{mapped}
+use Rattle.verifying.specs.Turns.{circuitPart, challengesPart}
+use Rattle.verifying.proofs.Sizes.{leaves-is, challenges-size}
 
 -- ---- two parts of work written one after the other
 
 module _ (P : Params) (w : List ℕ) (enough : roomEnd P ≤ length w) (end from to : ℕ) (ee : end ≡ leavesAt P) (ef : from ≡ challengesAt P) (et : to ≡ roomEnd P) where
   -- the circuit, at the start
   pub first-length : length (take (end - 0) (drop 0 w)) ≡ leavesAt P
-  first-length = length-take-le (end - 0) w (let o = ordered P in omega arith) ∙ (let q : end - 0 ≡ leavesAt P = omega arith in q)
+  first-length = length-first w end (let m = mapped P in omega arith) ∙ ee
 
   module _ (last : List ℕ) (kept : length last ≡ length (take (end - 0) (drop 0 w))) where
     pub first-back : length (last ++ drop (end - 0) (drop 0 w)) ≡ length w
-    first-back = let l = first-length in let o = ordered P in simp (length-append, length-drop) (omega arith)
+    first-back = length-first-back w last end (let m = mapped P in omega arith) kept
 
     -- the challenges, at the end
     pub second-length : length (take (to - from) (drop from (last ++ drop (end - 0) (drop 0 w)))) ≡ roomEnd P - challengesAt P
     second-length =
-        let o = ordered P in
+        let m = mapped P in
         let b = first-back in
-        length-take-le (to - from) (drop from (last ++ drop (end - 0) (drop 0 w))) (simp length-drop (omega arith))
+        length-lent (last ++ drop (end - 0) (drop 0 w)) from to (omega arith) (omega arith)
         ∙ (let q : to - from ≡ roomEnd P - challengesAt P = omega arith in q)
 
     module _ (more w′ : List ℕ) (size : length more ≡ roomEnd P - challengesAt P)
@@ -50,18 +52,16 @@ module _ (P : Params) (w : List ℕ) (enough : roomEnd P ≤ length w) (end from
           ∙ ap (λ (n : ℕ). put (last ++ drop (end - 0) (drop 0 w)) n more) ef
 
       fits : challengesAt P + length more ≤ length (last ++ drop (end - 0) (drop 0 w))
-      fits = let b = first-back in let o = ordered P in omega arith
+      fits = let b = first-back in let m = mapped P in omega arith
 
-      pub circuit-there : circuitOf P w′ ≡ last
+      pub circuit-there : circuitPart P w′ ≡ last
       circuit-there =
-          let o = ordered P in
+          let m = mapped P in
           ap (take (leavesAt P)) as-put
-          ∙ sym (take-take (leavesAt P) (challengesAt P) (put (last ++ drop (end - 0) (drop 0 w)) (challengesAt P) more) (omega arith))
-          ∙ ap (take (leavesAt P)) (take-put (last ++ drop (end - 0) (drop 0 w)) (challengesAt P) more fits)
-          ∙ take-take (leavesAt P) (challengesAt P) (last ++ drop (end - 0) (drop 0 w)) (omega arith)
+          ∙ take-before-put (last ++ drop (end - 0) (drop 0 w)) (challengesAt P) more (leavesAt P) fits (omega arith)
           ∙ take-at last (drop (end - 0) (drop 0 w)) (leavesAt P) (kept ∙ first-length)
 
-      pub challenges-there : challengesOf P w′ ≡ more
+      pub challenges-there : challengesPart P w′ ≡ more
       challenges-there =
           ap (λ (l : List ℕ). take (roomEnd P - challengesAt P) (drop (challengesAt P) l)) as-put
           ∙ ap (λ (n : ℕ). take n (drop (challengesAt P) (put (last ++ drop (end - 0) (drop 0 w)) (challengesAt P) more))) (sym size)
@@ -70,8 +70,8 @@ module _ (P : Params) (w : List ℕ) (enough : roomEnd P ≤ length w) (end from
 -- ---- what the tapes hold
 
 module _ (P : Params) (fit : Fits P) (pk x : List ℕ) (s : ℕ) (is : s ≡ S P) where
-  pub holds-circuit : (w last : List ℕ) (k : ℕ) → circuitOf P w ≡ last → last ≡ shake256 (take (s - 0) (drop 0 pk)) k → k ≡ leavesAt P
-      → HoldsCircuit (P .n) (P .m) (f P (publicKeyOf P pk)) (circuitOf P w)
+  pub holds-circuit : (w last : List ℕ) (k : ℕ) → circuitPart P w ≡ last → last ≡ shake256 (take (s - 0) (drop 0 pk)) k → k ≡ leavesAt P
+      → HoldsCircuit (P .n) (P .m) (f P (publicKeyOf P pk)) (circuitPart P w)
   unfolding f circuit publicKeyOf
   holds-circuit w last k ew el ek =
       let q : s - 0 ≡ S P = omega arith in
@@ -79,12 +79,12 @@ module _ (P : Params) (fit : Fits P) (pk x : List ℕ) (s : ℕ) (is : s ≡ S P
       (sym (ew ∙ el ∙ ap₂ (λ (n j : ℕ). shake256 (take n pk) j) q (ek ∙ leaves-is P)))
       (expanded-circuit (take (S P) pk) (P .n) (P .m) _ (omega arith))
 
-  pub holds-challenge : (w more : List ℕ) (k : ℕ) → challengesOf P w ≡ more → more ≡ shake256 (take (2 * s + 2 * s - 2 * s) (drop (2 * s) x)) k → k ≡ roomEnd P - challengesAt P
-      → (e : ℕ) → 1 ≤ e → e ≤ P .tau → challengeIn (P .m) (challengesOf P w) e ≡ ε P (publicKeyOf P pk) (extracted P x) e
+  pub holds-challenge : (w more : List ℕ) (k : ℕ) → challengesPart P w ≡ more → more ≡ shake256 (take (2 * s + 2 * s - 2 * s) (drop (2 * s) x)) k → k ≡ roomEnd P - challengesAt P
+      → (e : ℕ) → 1 ≤ e → e ≤ P .tau → challengeIn (P .m) (challengesPart P w) e ≡ ε P (publicKeyOf P pk) (extracted P x) e
   unfolding ε challenge extracted
   holds-challenge w more k ew em ek e a b =
       let q : 2 * s + 2 * s - 2 * s ≡ 2 * S P = omega arith in
-      let r = room (e - 1) (P .tau) (packedLength (P .m)) (omega arith) in
+      let r = among e (P .tau) (packedLength (P .m)) a b in
       ap (λ (l : List ℕ). challengeIn (P .m) l e)
       (ew ∙ em ∙ ap₂ (λ (n i : ℕ). shake256 (take n (drop i x)) k) q (ap (λ (i : ℕ). 2 * i) is) ∙ ap (shake256 (take (2 * S P) (drop (2 * S P) x))) (ek ∙ challenges-size P))
       ∙ expanded-challenge (take (2 * S P) (drop (2 * S P) x)) (P .m) e (P .tau * packedLength (P .m)) r

@@ -4,7 +4,6 @@ use mathlib.Core.Path.{_≡_, sym, ap, ap₂, _∙_}
 use mathlib.Core.Bool.{Bool, true, false, _&&_}
 use mathlib.Core.List.{List, _∷_, _++_, append-assoc, append-nil}
 use Prim.Native.Nat.{ℕ, _+_, _-_, _*_, _≤_}
-use native.Mathlib.Numerals.{add-one}
 use native.Mathlib.Omega.{arith}
 use lib.ListN.{length, take, drop}
 use Rattle.memory.specs.Lists.{same}
@@ -20,9 +19,9 @@ use Rattle.biscuit.specs.Keys.{PublicKey}
 use Rattle.biscuit.specs.Signature.{Signature, repeated, extracted}
 use Rattle.biscuit.specs.Verify.{σ₁, σ₂, h₁', h₂', firstAgrees, secondAgrees, valid}
 use Rattle.biscuit.specs.Room.{Fits}
-use Rattle.biscuit.proofs.Repeated.{repeated-suc}
+use Rattle.biscuit.proofs.Repeated.{repeated-more}
 use Rattle.verifying.specs.declared.Both.{Both}
-use Rattle.verifying.specs.Turns.{firstOf, secondOf, Turned, Hashed}
+use Rattle.verifying.specs.Turns.{firstOf, secondOf, TurnHashed, Hashed}
 use Rattle.verifying.proofs.Sizes.{head-fits}
 
 -- ---- the fields of the hashes grow at their ends
@@ -60,20 +59,17 @@ module _ (P : Params) (key : PublicKey) where
   module _ (σ : Signature) (message : List ℕ) where
     -- ---- one repetition more
 
-    pub hashed-more : (e : ℕ) (before after : Both) → Hashed P key σ message e before → Turned P key σ (e + 1) before after → Hashed P key σ message (e + 1) after
+    pub hashed-more : (e : ℕ) (before after : Both) → Hashed P key σ message e before → TurnHashed P key σ (e + 1) before after → Hashed P key σ message (e + 1) after
     hashed-more e before after h t = record {
       first = t .first
           ∙ ap (λ (s : Sponge). absorbed s (firstOf P key σ (e + 1))) (h .first)
           ∙ absorbed-append fresh (firstFields (σ .salt) message (repeated e (firstOf P key σ))) (firstOf P key σ (e + 1))
-          ∙ ap (absorbed fresh) (first-more (σ .salt) message (repeated e (firstOf P key σ)) (firstOf P key σ (e + 1)) ∙ ap (firstFields (σ .salt) message) (grown (firstOf P key σ)));
+          ∙ ap (absorbed fresh) (first-more (σ .salt) message (repeated e (firstOf P key σ)) (firstOf P key σ (e + 1)) ∙ ap (firstFields (σ .salt) message) (repeated-more e (firstOf P key σ)));
       second = t .second
           ∙ ap (λ (s : Sponge). absorbed s (secondOf P key σ (e + 1))) (h .second)
           ∙ absorbed-append fresh (secondFields (σ .salt) (σ .h₁) (repeated e (secondOf P key σ))) (secondOf P key σ (e + 1))
-          ∙ ap (absorbed fresh) (second-more (σ .salt) (σ .h₁) (repeated e (secondOf P key σ)) (secondOf P key σ (e + 1)) ∙ ap (secondFields (σ .salt) (σ .h₁)) (grown (secondOf P key σ)));
+          ∙ ap (absorbed fresh) (second-more (σ .salt) (σ .h₁) (repeated e (secondOf P key σ)) (secondOf P key σ (e + 1)) ∙ ap (secondFields (σ .salt) (σ .h₁)) (repeated-more e (secondOf P key σ)));
     }
-      where
-        grown : (g : ℕ → List ℕ) → repeated e g ++ g (e + 1) ≡ repeated (e + 1) g
-        grown g = ap (λ (k : ℕ). repeated e g ++ g k) (add-one e) ∙ sym (repeated-suc e g) ∙ ap (λ (k : ℕ). repeated k g) (sym (add-one e))
 
     -- ---- what they give at the end
 

@@ -38,8 +38,8 @@ module _ (S : ℕ) (salt : List ℕ) (e L : ℕ) (path : List (List ℕ)) (h : �
         ∙ ap (pieces S (length l)) (sym (append-nil (flatten l)))
         ∙ pieces-flatten each-coded []
 
-    pub length-leaves : length (flatten (filled (replicate S 0) (getPathSeeds (children S salt e) L path h))) ≡ 2 ^ L * S
-    length-leaves =
+    pub length-filled : length (flatten (filled (replicate S 0) (getPathSeeds (children S salt e) L path h))) ≡ 2 ^ L * S
+    length-filled =
         ap (λ (x : List (List ℕ)). length (flatten x)) (filled-getPathSeeds (children S salt e) L h legal path (replicate S 0))
         ∙ length-flatten each-coded
         ∙ ap (λ (n : ℕ). n * S) (length-coded (children S salt e) L h legal path (replicate S 0))

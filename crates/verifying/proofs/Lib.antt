@@ -1,6 +1,7 @@
 pub mod Expanding
 pub mod Hashing
 pub mod Leaves
+pub mod OneOutcome
 pub mod Reading
 pub mod Sizes
 pub mod Turning

@@ -1,16 +1,14 @@
 -- The elements that a repetition reads are those that algorithm 13 extracts; and laid one after another they are read off again.
 -- Assumes nothing.
-use mathlib.Core.Path.{_≡_, sym, ap, ap₂, _∙_, subst}
-use mathlib.Core.List.{List, _++_, append-assoc, append-nil}
+use mathlib.Core.Path.{_≡_, refl, sym, ap, ap₂, _∙_, subst}
+use mathlib.Core.List.{List, _++_, append-assoc}
 use Prim.Native.Nat.{ℕ, _+_, _-_, _*_, _/_, _≤_}
 use native.Mathlib.Nat.{add-assoc}
 use native.Mathlib.Omega.{arith}
-use lib.ListN.{length, take, drop, length-append, length-drop, drop-of-length-le}
+use lib.ListN.{length, take, drop, length-append, length-drop}
 use lib.Seq.{take-at, drop-at, drop-drop, take-all, length-take-le}
 use Rattle.memory.specs.Lists.{table}
-use Rattle.memory.proofs.Lists.{room, table-add, table-same}
-use Rattle.memory.proofs.Parts.{lent-put, put-section}
-use Rattle.memory.proofs.Xors.{part-sized, length-part}
+use Rattle.memory.proofs.Lists.{table-add, table-same}
 use Rattle.field.specs.Packing.{Elements, nib, packedLength, unpack}
 use Rattle.field.proofs.Packing.{length-unpack, getD-unpack, nib-drop, unpack-elements}
 use Rattle.sets.specs.Sets.{S}
@@ -21,8 +19,9 @@ use Rattle.parties.specs.Repetition.{challenge}
 use Rattle.biscuit.specs.Keys.{PublicKey, publicKeyOf}
 use Rattle.biscuit.specs.Signature.{packingAt, vectorCount, packedVectors, openingOf, extracted}
 use Rattle.biscuit.specs.Verify.{ε}
+use Rattle.biscuit.proofs.Parts.{four-sizes, four-sections}
 use Rattle.biscuit.proofs.Places.{Δs-at, Δc-at, α-at}
-use Rattle.biscuit.proofs.Repeated.{append-elements, take-elements, drop-elements}
+use Rattle.biscuit.proofs.Repeated.{among, append-elements, take-elements, drop-elements}
 use Rattle.vectors.specs.Elements.{elementsAt}
 use Rattle.vectors.proofs.Elements.{elements-at-of, elements-at-first}
 use Rattle.verifying.specs.Turns.{valuesOf}
@@ -40,21 +39,21 @@ module _ (P : Params) (x : List ℕ) (e : ℕ) (from-one : 1 ≤ e) (within : e 
   pub length-Δs : length (openingOf P x e .Δs) ≡ P .n
   unfolding openingOf packedVectors vectorCount
   length-Δs =
-      let r = room (e - 1) (P .tau) (P .n + P .m) (omega arith) in
+      let r = among e (P .tau) (P .n + P .m) from-one within in
       let u = length-unpack (P .tau * (P .n + P .m) + P .tau * P .m) (drop (packingAt P) x) in
       length-take-le (P .n) _ (simp length-drop (omega arith))
 
   pub length-Δc : length (openingOf P x e .Δc) ≡ P .m
   unfolding openingOf packedVectors vectorCount
   length-Δc =
-      let r = room (e - 1) (P .tau) (P .n + P .m) (omega arith) in
+      let r = among e (P .tau) (P .n + P .m) from-one within in
       let u = length-unpack (P .tau * (P .n + P .m) + P .tau * P .m) (drop (packingAt P) x) in
       length-take-le (P .m) _ (simp length-drop (omega arith))
 
   pub length-α : length (openingOf P x e .α) ≡ P .m
   unfolding openingOf packedVectors vectorCount
   length-α =
-      let r = room (e - 1) (P .tau) (P .m) (omega arith) in
+      let r = among e (P .tau) (P .m) from-one within in
       let u = length-unpack (P .tau * (P .n + P .m) + P .tau * P .m) (drop (packingAt P) x) in
       length-take-le (P .m) _ (simp length-drop (omega arith))
 
@@ -172,8 +171,8 @@ module _ (P : Params) (pk x challenges : List ℕ) (e : ℕ) where
   unfolding publicKeyOf
   t-elements = unpack-elements (P .m) (drop (S P) pk)
 
-  pub values-elements : (v : List ℕ) → v ≡ asRead → Elements v
-  values-elements v is =
+  pub read-elements-small : (v : List ℕ) → v ≡ asRead → Elements v
+  read-elements-small v is =
       subst Elements (sym is)
       (append-elements (openingOf P x e .Δs ++ openingOf P x e .Δc) (challengeIn (P .m) challenges e ++ (publicKeyOf P pk .t ++ openingOf P x e .α))
       (append-elements (openingOf P x e .Δs) (openingOf P x e .Δc) Δs-elements Δc-elements)
@@ -186,20 +185,6 @@ module _ (P : Params) (pk x challenges : List ℕ) (e : ℕ) where
   values-are v is c = is ∙ ap (λ (y : List ℕ). (openingOf P x e .Δs ++ openingOf P x e .Δc) ++ (y ++ (publicKeyOf P pk .t ++ openingOf P x e .α))) c
 
 -- ---- four parts laid one after another
-
-section : (p out r : List ℕ) (a b : ℕ) → length p ≡ a → a + length r ≡ b → take a (p ++ drop a out) ++ (r ++ drop (b - a) (drop a (p ++ drop a out))) ≡ (p ++ r) ++ drop b out
-section p out r a b lp lr =
-    lent-put (p ++ drop a out) a b r (let q : length r ≡ b - a = omega arith in q)
-    ∙ put-section p out a r lp ∙ ap (λ (k : ℕ). (p ++ r) ++ drop k out) lr
-
-lent-more : (v r : List ℕ) (a b : ℕ) → a ≤ b → b ≤ length v → length r ≡ length (take (b - a) (drop a v)) → length (take a v ++ (r ++ drop (b - a) (drop a v))) ≡ length v
-lent-more v r a b h g k =
-    let t = length-take-le a v (omega arith) in
-    let u = length-part′ in
-    simp (length-append, length-drop) (omega arith)
-  where
-    length-part′ : length (take (b - a) (drop a v)) ≡ b - a
-    length-part′ = length-take-le (b - a) (drop a v) (simp length-drop (omega arith))
 
 -- after one part, two and three
 abbrev after₁ : List ℕ → List ℕ → ℕ → List ℕ
@@ -215,23 +200,14 @@ module _ (n m : ℕ) (v r₁ r₂ r₃ : List ℕ) (size : length v ≡ n + m + 
       → length r₃ ≡ length (take (n + m + m + m - (n + m + m)) (drop (n + m + m) (after₂ (after₁ v r₁ (n + m)) r₂ (n + m) (n + m + m))))
       → length (take (n + m + m + m + m - (n + m + m + m)) (drop (n + m + m + m) (after₂ (after₂ (after₁ v r₁ (n + m)) r₂ (n + m) (n + m + m)) r₃ (n + m + m) (n + m + m + m)))) ≡ m
   last-room k₁ k₂ k₃ =
-      let l₁ = lent-more v r₁ 0 (n + m) (omega arith) (omega arith) k₁ in
-      let l₂ = lent-more (after₁ v r₁ (n + m)) r₂ (n + m) (n + m + m) (omega arith) (omega arith) k₂ in
-      let l₃ = lent-more (after₂ (after₁ v r₁ (n + m)) r₂ (n + m) (n + m + m)) r₃ (n + m + m) (n + m + m + m) (omega arith) (omega arith) k₃ in
-      ap length (part-sized (after₂ (after₂ (after₁ v r₁ (n + m)) r₂ (n + m) (n + m + m)) r₃ (n + m + m) (n + m + m + m)) (n + m + m + m) m)
-      ∙ length-part (after₂ (after₂ (after₁ v r₁ (n + m)) r₂ (n + m) (n + m + m)) r₃ (n + m + m) (n + m + m + m)) (n + m + m + m) m (omega arith)
+      four-sizes r₁ r₂ r₃ v _ _ _ (n + m) (n + m + m) (n + m + m + m) (n + m + m + m + m) (omega arith) (omega arith) (omega arith) size refl refl refl k₁ k₂ k₃ .fourth-is
+      ∙ (let q : n + m + m + m + m - (n + m + m + m) ≡ m = omega arith in q)
 
-  pub four-laid : (r₄ : List ℕ) → length r₁ ≡ n + m → length r₂ ≡ m → length r₃ ≡ m → length r₄ ≡ m
+  four-laid : (r₄ : List ℕ) → length r₁ ≡ n + m → length r₂ ≡ m → length r₃ ≡ m → length r₄ ≡ m
       → after₂ (after₂ (after₂ (after₁ v r₁ (n + m)) r₂ (n + m) (n + m + m)) r₃ (n + m + m) (n + m + m + m)) r₄ (n + m + m + m) (n + m + m + m + m) ≡ r₁ ++ (r₂ ++ (r₃ ++ r₄))
   four-laid r₄ l₁ l₂ l₃ l₄ =
-      ap (λ (x : List ℕ). after₂ (after₂ (after₂ x r₂ (n + m) (n + m + m)) r₃ (n + m + m) (n + m + m + m)) r₄ (n + m + m + m) (n + m + m + m + m))
-      (ap (λ (k : ℕ). r₁ ++ drop k v) (let q : n + m - 0 ≡ n + m = omega arith in q))
-      ∙ ap (λ (x : List ℕ). after₂ (after₂ x r₃ (n + m + m) (n + m + m + m)) r₄ (n + m + m + m) (n + m + m + m + m)) (section r₁ v r₂ (n + m) (n + m + m) l₁ (omega arith))
-      ∙ ap (λ (x : List ℕ). after₂ x r₄ (n + m + m + m) (n + m + m + m + m)) (section (r₁ ++ r₂) v r₃ (n + m + m) (n + m + m + m) (simp length-append (omega arith)) (omega arith))
-      ∙ section ((r₁ ++ r₂) ++ r₃) v r₄ (n + m + m + m) (n + m + m + m + m) (simp length-append (omega arith)) (omega arith)
-      ∙ ap (λ (x : List ℕ). (((r₁ ++ r₂) ++ r₃) ++ r₄) ++ x) (drop-of-length-le v {i = n + m + m + m + m} (omega arith))
-      ∙ append-nil (((r₁ ++ r₂) ++ r₃) ++ r₄)
-      ∙ append-assoc (r₁ ++ r₂) r₃ r₄ ∙ append-assoc r₁ r₂ (r₃ ++ r₄)
+      four-sections r₁ r₂ r₃ v _ _ _ (n + m) (n + m + m) (n + m + m + m) (n + m + m + m + m) (omega arith) (omega arith) (omega arith) size refl refl refl r₄ _ refl
+      l₁ (omega arith) (omega arith) (omega arith)
 
 -- the values of a repetition
 module _ (P : Params) (pk x challenges : List ℕ) (e : ℕ) (from-one : 1 ≤ e) (within : e ≤ P .tau) (v r₁ r₂ r₃ r₄ : List ℕ) (size : length v ≡ P .n + P .m + P .m + P .m + P .m) where

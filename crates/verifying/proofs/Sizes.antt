@@ -1,73 +1,43 @@
 -- Where the parts of keys, signature and work lie, in numbers: every part lies within what it is a part of, and no sum is too large.
 -- Assumes nothing.
-use mathlib.Core.Path.{_≡_, refl, ap, _∙_}
-use Prim.Native.Nat.{ℕ, _+_, _-_, _*_, _/_, _^_, _≤_, _<_}
-use native.Mathlib.Nat.{mul-le-mul, mod-lt}
+use mathlib.Core.Path.{_≡_, refl, sym, ap, _∙_}
+use Prim.Native.Nat.{ℕ, _+_, _-_, _*_, _/_, _^_, _≤_}
+use native.Mathlib.Nat.{mul-le-mul}
 use native.Mathlib.Omega.{arith}
-use lib.ListN.{length, getD, take, drop, length-take, length-drop}
-use lib.Seq.{length-take-le}
-use lib.Pow.{pow-pos}
+use lib.ListN.{length, take, drop, length-take}
 use mathlib.Core.List.{List}
-use Rattle.memory.proofs.Lists.{room}
 use Rattle.memory.proofs.Xors.{part-sized, length-part}
 use Rattle.field.specs.Packing.{packedLength}
 use Rattle.sets.specs.Sets.{S, N, publicKeyLength, signatureLength}
 use Rattle.sets.specs.declared.Params.{Params}
-use Rattle.forms.specs.Room.{circuitLength, hiddenIn}
+use Rattle.forms.specs.Room.{circuitLength}
 use Rattle.biscuit.specs.Signature.{headLength, shownLength, shownAt, packingAt}
 use Rattle.biscuit.specs.Room.{groups, leavesAt, roomAt, rootsAt, challengesAt, roomEnd, Fits}
-use Rattle.refusals.specs.Refusals.{workLength}
-use Rattle.refusals.proofs.Refusals.{workLength-is}
-use Rattle.biscuit.proofs.Room.{few-groups}
+use Rattle.biscuit.proofs.Parts.{length-lent}
+use Rattle.biscuit.proofs.Repeated.{among}
+use Rattle.biscuit.proofs.Room.{mapped}
 
 -- ---- work
-
--- the parts of work lie one after another
-pub record Ordered (P : Params) : Type 0 where
-  pub circuit : leavesAt P ≤ roomAt P
-  pub leaves : roomAt P ≤ rootsAt P
-  pub roots : rootsAt P ≤ challengesAt P
-  pub challenges : challengesAt P ≤ roomEnd P
-
-pub ordered : (P : Params) → Ordered P
-unfolding roomAt rootsAt challengesAt roomEnd
-ordered P = record { circuit = omega arith; leaves = omega arith; roots = omega arith; challenges = omega arith }
 
 module _ (P : Params) where
   pub leaves-is : leavesAt P ≡ circuitLength (P .n) (P .m)
   unfolding leavesAt
   leaves-is = refl
 
-  pub room-is : roomAt P ≡ leavesAt P + 16 * groups P * S P
-  unfolding roomAt
-  room-is = refl
-
   pub roots-is : rootsAt P ≡ circuitLength (P .n) (P .m) + 16 * groups P * S P + groups P * (16 * P .m)
   unfolding rootsAt roomAt leavesAt
   roots-is = refl
 
   pub challenges-size : roomEnd P - challengesAt P ≡ P .tau * packedLength (P .m)
-  unfolding roomEnd
-  challenges-size = omega arith
+  challenges-size = let m = mapped P in omega arith
 
   -- the leaves of one repetition
-  pub leaves-size : Fits P → roomAt P - leavesAt P ≡ 2 ^ P .l * S P
-  unfolding roomAt N
-  leaves-size f = let e = ap (λ (n : ℕ). n * S P) (f .parties) in omega arith
-
   pub leaves-groups : roomAt P - leavesAt P ≡ 16 * groups P * S P
-  unfolding roomAt
-  leaves-groups = omega arith
+  leaves-groups = let m = mapped P in omega arith
 
-  pub work-enough : Fits P → (n : ℕ) → n ≡ workLength → roomEnd P ≤ n
-  work-enough f n e = let a = f .enough in let b = workLength-is in omega arith
-
-  pub groups-some : 0 < groups P
-  unfolding groups
-  groups-some = pow-pos (P .l - 4)
-
-  pub groups-few : Fits P → groups P ≤ 16
-  groups-few f = few-groups P f (groups P) (circuitLength (P .n) (P .m)) refl refl
+  pub leaves-size : Fits P → roomAt P - leavesAt P ≡ 2 ^ P .l * S P
+  unfolding N
+  leaves-size f = leaves-groups ∙ sym (ap (λ (n : ℕ). n * S P) (f .parties))
 
 -- ---- keys and signature
 
@@ -86,12 +56,9 @@ module _ (P : Params) (f : Fits P) where
   seed-fits = omega arith
 
   module _ (e : ℕ) (from-one : 1 ≤ e) (within : e ≤ P .tau) where
-    pub turn-small : (w : ℕ) → (e - 1) * w + w ≤ P .tau * w
-    turn-small w = room (e - 1) (P .tau) w (omega arith)
-
     pub shown-fits : shownAt P e + P .l * S P + 2 * S P ≤ signatureLength P
     unfolding signatureLength shownAt headLength shownLength
-    shown-fits = let r = turn-small (P .l * S P + 2 * S P) in omega arith
+    shown-fits = let r = among e (P .tau) (P .l * S P + 2 * S P) from-one within in omega arith
 
   -- the vectors of one repetition
   pub corrections-small : P .tau * (P .n + P .m) ≤ 17447
@@ -112,17 +79,6 @@ module _ (P : Params) (f : Fits P) where
       let b = f .equations in
       let c = mul-le-mul {n₁ = P .tau} {m₁ = (P .m + 1) / 2} {n₂ = 73} {m₂ = 61} (f .repetitions) (omega arith) in
       omega arith
-
--- ---- the hidden party
-
-module _ (l : ℕ) (bytes : List ℕ) (e : ℕ) where
-  pub hidden-from-one : 1 ≤ hiddenIn l bytes e
-  unfolding hiddenIn
-  hidden-from-one = omega arith
-
-  pub hidden-within : hiddenIn l bytes e ≤ 2 ^ l
-  unfolding hiddenIn
-  hidden-within = let h = mod-lt (getD bytes (e - 1) 0) (pow-pos l) in omega arith
 
 -- ---- parts that are lent
 
@@ -149,5 +105,5 @@ module _ (P : Params) (f : Fits P) (s : ℕ) (is : s ≡ S P) (x : List ℕ) whe
 module _ (P : Params) (f : Fits P) (w : List ℕ) (enough : roomEnd P ≤ length w) (c d : ℕ) (ec : c ≡ leavesAt P) (ed : d ≡ roomAt P) where
   pub leaves-length : length (take (d - c) (drop c w)) ≡ 2 ^ P .l * S P
   leaves-length =
-      let o = ordered P in
-      length-take-le (d - c) (drop c w) (simp length-drop (omega arith)) ∙ (let q : d - c ≡ roomAt P - leavesAt P = omega arith in q) ∙ leaves-size P f
+      let m = mapped P in
+      length-lent w c d (omega arith) (omega arith) ∙ (let q : d - c ≡ roomAt P - leavesAt P = omega arith in q) ∙ leaves-size P f

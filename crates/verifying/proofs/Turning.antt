@@ -3,16 +3,14 @@
 use mathlib.Core.Path.{_≡_, sym, ap, ap₂, _∙_, subst}
 use mathlib.Core.List.{List, [], _++_, flatten}
 use mathlib.Core.Option.{Option, Option·map}
-use Prim.Native.Nat.{ℕ, _+_, _-_, _*_, _/_, _%_, _^_, _≤_, _<_}
-use native.Mathlib.Nat.{mod-lt}
+use Prim.Native.Nat.{ℕ, _+_, _-_, _*_, _/_, _≤_, _<_}
 use native.Mathlib.Omega.{arith}
 use lib.ListN.{length, getD, take, drop, replicate, length-drop}
-use lib.Pow.{pow-pos}
-use lib.Seq.{drop-drop, drop-at, take-take, take-append-le, length-take-le}
+use lib.Seq.{drop-at, take-take, take-append-le}
 use Rattle.memory.specs.Lists.{put}
 use Rattle.memory.specs.Sections.{pieces}
 use Rattle.memory.proofs.Sections.{drop-take}
-use Rattle.memory.proofs.Parts.{lent-put, take-put, mid-put, drop-put}
+use Rattle.memory.proofs.Parts.{lent-put, take-put, mid-put}
 use Rattle.field.specs.Packing.{pack}
 use Rattle.sponge.specs.declared.Sponge.{Sponge}
 use Rattle.sponge.specs.Steps.{absorbed}
@@ -20,9 +18,9 @@ use Rattle.sets.specs.Sets.{S, N, signatureLength}
 use Rattle.sets.specs.declared.Params.{Params}
 use Rattle.hashes.specs.Hashes.{commit}
 use Rattle.tree.specs.Tree.{children, getPathSeeds, filled}
-use Rattle.forms.specs.Sampling.{sampleIndex, expandIndex}
 use Rattle.forms.specs.Circuit.{Circuit}
 use Rattle.forms.specs.Room.{HoldsCircuit, challengeIn}
+use Rattle.forms.proofs.Sampling.{Index, expandIndex-index}
 use Rattle.parties.specs.Parties.{Share, parties, corrected}
 use Rattle.parties.specs.Repetition.{hiddenParty, first, second, rawShare, knownShares, givenAt, leftOut, allComs, allAlphas, allVs}
 use Rattle.parties.proofs.Hidden.{parties-leftOut}
@@ -34,23 +32,18 @@ use Rattle.biscuit.specs.Keys.{PublicKey}
 use Rattle.biscuit.specs.Signature.{Signature, shownAt, openingOf, extracted}
 use Rattle.biscuit.specs.Verify.{f, ε, hidden, seeds, coms, shares, αs, allV}
 use Rattle.biscuit.specs.Room.{groups, leavesAt, roomAt, rootsAt, challengesAt, roomEnd, Fits}
+use Rattle.biscuit.proofs.Parts.{length-first, drop-behind-put}
 use Rattle.biscuit.proofs.Places.{path-read}
-use Rattle.verifying.specs.Turns.{circuitOf, leavesOf, Expanded, leaves, firstOf, secondOf}
-use Rattle.verifying.proofs.Leaves.{leaves-left-out, length-leaves, path-sized}
+use Rattle.biscuit.proofs.Room.{mapped}
+use Rattle.verifying.specs.Turns.{circuitPart, leavesPart, Expanded, leaves, firstOf, secondOf}
+use Rattle.verifying.proofs.Leaves.{leaves-left-out, length-filled, path-sized}
 use Rattle.verifying.proofs.Reading.{Cut}
-use Rattle.verifying.proofs.Sizes.{ordered, shown-fits, leaves-size}
-
-below : (a l : ℕ) → a % 2 ^ l + 1 - 1 < 2 ^ l
-below a l = let h = mod-lt a (pow-pos l) in omega arith
+use Rattle.verifying.proofs.Sizes.{shown-fits, leaves-size}
 
 module _ (P : Params) (fit : Fits P) (key : PublicKey) (x : List ℕ) (size : length x ≡ signatureLength P) (e : ℕ) (from-one : 1 ≤ e) (within : e ≤ P .tau) where
-  hidden-from-one : 1 ≤ hidden P key (extracted P x) e
-  unfolding hidden hiddenParty expandIndex sampleIndex
-  hidden-from-one = omega arith
-
-  hidden-legal : hidden P key (extracted P x) e - 1 < 2 ^ P .l
-  unfolding hidden hiddenParty expandIndex sampleIndex
-  hidden-legal = below _ (P .l)
+  index : Index (P .l) (hidden P key (extracted P x) e)
+  unfolding hidden hiddenParty
+  index = expandIndex-index (extracted P x .h₂) (P .l) e
 
   sized : (k : ℕ) → k < P .l → length (getD (pieces (S P) (P .l) (drop (shownAt P e) x)) k []) ≡ S P
   sized = path-sized (S P) (P .l) (drop (shownAt P e) x) (let h = shown-fits P fit e from-one within in simp length-drop (omega arith))
@@ -58,7 +51,7 @@ module _ (P : Params) (fit : Fits P) (key : PublicKey) (x : List ℕ) (size : le
   pub length-of-leaves : length (leaves P key (extracted P x) e) ≡ roomAt P - leavesAt P
   unfolding leaves seeds extracted openingOf
   length-of-leaves =
-      length-leaves (S P) (take (2 * S P) x) e (P .l) (pieces (S P) (P .l) (drop (shownAt P e) x)) (hidden P key (extracted P x) e) sized hidden-legal hidden-from-one
+      length-filled (S P) (take (2 * S P) x) e (P .l) (pieces (S P) (P .l) (drop (shownAt P e) x)) (hidden P key (extracted P x) e) sized (index .below) (index .from-one)
       ∙ sym (leaves-size P fit)
 
   -- the leaves as they are rebuilt
@@ -84,14 +77,14 @@ module _ (P : Params) (fit : Fits P) (key : PublicKey) (x : List ℕ) (size : le
   -- line 10: the seeds, by the leaves
   known-seeds : seeds P key (extracted P x) e ≡ leftOut (hidden P key (extracted P x) e) (pieces (S P) (N P) (leaves P key (extracted P x) e))
   unfolding seeds leaves N extracted openingOf
-  known-seeds = leaves-left-out (S P) (take (2 * S P) x) e (P .l) (pieces (S P) (P .l) (drop (shownAt P e) x)) (hidden P key (extracted P x) e) sized hidden-legal hidden-from-one
+  known-seeds = leaves-left-out (S P) (take (2 * S P) x) e (P .l) (pieces (S P) (P .l) (drop (shownAt P e) x)) (hidden P key (extracted P x) e) sized (index .below) (index .from-one)
 
   -- line 32
-  pub first-absorbed : (h : ℕ) (l : List ℕ) (s r t : Sponge) → h ≡ hidden P key (extracted P x) e → l ≡ leaves P key (extracted P x) e
+  pub first-turned : (h : ℕ) (l : List ℕ) (s r t : Sponge) → h ≡ hidden P key (extracted P x) e → l ≡ leaves P key (extracted P x) e
       → r ≡ absorbed s (flatten (parties (givenAt (openingOf P x e .commitment) h (commit (S P) (extracted P x .salt) e)) (pieces (S P) (N P) l)))
       → t ≡ absorbed r (pack (openingOf P x e .Δs) ++ pack (openingOf P x e .Δc)) → t ≡ absorbed s (firstOf P key (extracted P x) e)
   unfolding firstOf coms extracted
-  first-absorbed h l s r t eh el er et =
+  first-turned h l s r t eh el er et =
       absorbed-known P (extracted P x .salt) e h (pieces (S P) (N P) l) (openingOf P x e .commitment) (openingOf P x e .Δs) (openingOf P x e .Δc) s r t er et
       ∙ ap (λ (k : List (Option (List ℕ))). absorbed s (first (allComs P (extracted P x .salt) e (openingOf P x e .commitment) k) (openingOf P x e .Δs) (openingOf P x e .Δc)))
       (ap₂ (λ (i : ℕ) (y : List ℕ). leftOut i (pieces (S P) (N P) y)) eh el ∙ sym known-seeds)
@@ -131,8 +124,8 @@ module _ (P : Params) (fit : Fits P) (key : PublicKey) (x : List ℕ) (size : le
         ∙ ap₂ (λ (t : List ℕ) (k : List (Option Share)). second (allAlphas g (ε P key (extracted P x) e) (openingOf P x e .α) k) (allVs g t (ε P key (extracted P x) e) (openingOf P x e .α) k))
         (ap₂ (λ (n m : ℕ). take m (drop (n + m + m) v)) en em ∙ parts .fourth) known-by-rep
 
-    pub second-absorbed : (s r : Sponge) → r ≡ absorbed s (answered (f P key) rep v (sharesOf P rep salt l v)) → r ≡ absorbed s (secondOf P key (extracted P x) e)
-    second-absorbed s r er = er ∙ ap (absorbed s) answered-as
+    pub second-turned : (s r : Sponge) → r ≡ absorbed s (answered (f P key) rep v (sharesOf P rep salt l v)) → r ≡ absorbed s (secondOf P key (extracted P x) e)
+    second-turned s r er = er ∙ ap (absorbed s) answered-as
 
 -- the salt, as it is lent
 pub salt-is : (P : Params) (x : List ℕ) → take (2 * (P .bits / 8) - 0) (drop 0 x) ≡ extracted P x .salt
@@ -142,7 +135,7 @@ salt-is P x = ap (λ (n : ℕ). take n x) (let q : 2 * (P .bits / 8) - 0 ≡ 2 *
 -- line 12: the commitments, by the parts of signature and work
 pub commitments-as : (P : Params) (x w : List ℕ) (e h s n at c d : ℕ) → s ≡ S P → n ≡ N P → at ≡ shownAt P e → c ≡ leavesAt P → d ≡ roomAt P
     → flatten (parties (givenAt (take (at + P .l * s + 2 * s - (at + P .l * s)) (drop (at + P .l * s) x)) h (commit s (take (2 * s - 0) (drop 0 x)) e)) (pieces s n (take (d - c) (drop c w))))
-    ≡ flatten (parties (givenAt (openingOf P x e .commitment) h (commit (S P) (extracted P x .salt) e)) (pieces (S P) (N P) (leavesOf P w)))
+    ≡ flatten (parties (givenAt (openingOf P x e .commitment) h (commit (S P) (extracted P x .salt) e)) (pieces (S P) (N P) (leavesPart P w)))
 unfolding openingOf extracted
 commitments-as P x w e h s n at c d es en ea ec ed =
     ap₂ (λ (i j : ℕ). flatten (parties (givenAt (take i (drop (at + P .l * s) x)) h (commit s (take j x) e)) (pieces s n (take (d - c) (drop c w)))))
@@ -153,28 +146,8 @@ commitments-as P x w e h s n at c d es en ea ec ed =
 
 -- ---- what was expanded stays
 
-drop-behind : (old : List ℕ) (at : ℕ) (new : List ℕ) (k : ℕ) → at + length new ≤ length old → at + length new ≤ k → drop k (put old at new) ≡ drop k old
-drop-behind old at new k fits h =
-    let q : k ≡ at + length new + (k - (at + length new)) = omega arith in
-    ap (λ (i : ℕ). drop i (put old at new)) q
-    ∙ sym (drop-drop (k - (at + length new)) (at + length new) (put old at new))
-    ∙ ap (drop (k - (at + length new))) (drop-put old at new fits)
-    ∙ drop-drop (k - (at + length new)) (at + length new) old
-    ∙ ap (λ (i : ℕ). drop i old) (sym q)
-
 module _ (P : Params) (w w′ : List ℕ) where
-  -- from the roots on, and so from the challenges on
-  pub behind-roots : drop (rootsAt P) w′ ≡ drop (rootsAt P) w → drop (challengesAt P) w′ ≡ drop (challengesAt P) w
-  behind-roots h =
-      let o = ordered P .roots in
-      let q : challengesAt P ≡ rootsAt P + (challengesAt P - rootsAt P) = omega arith in
-      ap (λ (i : ℕ). drop i w′) q
-      ∙ sym (drop-drop (challengesAt P - rootsAt P) (rootsAt P) w′)
-      ∙ ap (drop (challengesAt P - rootsAt P)) h
-      ∙ drop-drop (challengesAt P - rootsAt P) (rootsAt P) w
-      ∙ ap (λ (i : ℕ). drop i w) (sym q)
-
-  pub still-expanded : (key : PublicKey) (σ : Signature) (parties : List ℕ) → Expanded P key σ parties w → circuitOf P w′ ≡ circuitOf P w → drop (challengesAt P) w′ ≡ drop (challengesAt P) w
+  pub still-expanded : (key : PublicKey) (σ : Signature) (parties : List ℕ) → Expanded P key σ parties w → circuitPart P w′ ≡ circuitPart P w → drop (challengesAt P) w′ ≡ drop (challengesAt P) w
       → Expanded P key σ parties w′
   still-expanded key σ parties x c h = record {
     circuit = subst (HoldsCircuit (P .n) (P .m) (f P key)) (sym c) (x .circuit);
@@ -185,31 +158,31 @@ module _ (P : Params) (w w′ : List ℕ) where
 -- the leaves put into work
 module _ (P : Params) (w new w′ : List ℕ) (enough : roomEnd P ≤ length w) (size : length new ≡ roomAt P - leavesAt P) (is : w′ ≡ put w (leavesAt P) new) where
   fits : leavesAt P + length new ≤ length w
-  fits = let o = ordered P in omega arith
+  fits = let m = mapped P in omega arith
 
-  pub put-circuit : circuitOf P w′ ≡ circuitOf P w
+  pub put-circuit : circuitPart P w′ ≡ circuitPart P w
   put-circuit = ap (take (leavesAt P)) is ∙ take-put w (leavesAt P) new fits
 
-  pub put-leaves : leavesOf P w′ ≡ new
+  pub put-leaves : leavesPart P w′ ≡ new
   put-leaves = ap (λ (l : List ℕ). take (roomAt P - leavesAt P) (drop (leavesAt P) l)) is ∙ ap (λ (n : ℕ). take n (drop (leavesAt P) (put w (leavesAt P) new))) (sym size) ∙ mid-put w (leavesAt P) new fits
 
   pub put-challenges : drop (challengesAt P) w′ ≡ drop (challengesAt P) w
-  put-challenges = ap (drop (challengesAt P)) is ∙ drop-behind w (leavesAt P) new (challengesAt P) fits (let o = ordered P in omega arith)
+  put-challenges = ap (drop (challengesAt P)) is ∙ drop-behind-put w (leavesAt P) new (challengesAt P) fits (let m = mapped P in omega arith)
 
 -- the part of work up to the roots lent, and come back with the circuit in it
 module _ (P : Params) (w : List ℕ) (enough : roomEnd P ≤ length w) (d : ℕ) (at : d ≡ rootsAt P) where
   lent-all : take (d - 0) (drop 0 w) ≡ take (rootsAt P) w
   lent-all = ap (λ (n : ℕ). take n w) (let q : d - 0 ≡ rootsAt P = omega arith in q)
 
-  pub lent-length : length (take (d - 0) (drop 0 w)) ≡ rootsAt P
-  lent-length = ap length lent-all ∙ length-take-le (rootsAt P) w (let o = ordered P in omega arith)
+  pub rooms-length : length (take (d - 0) (drop 0 w)) ≡ rootsAt P
+  rooms-length = length-first w d (let m = mapped P in omega arith) ∙ at
 
-  pub lent-circuit : (c : ℕ) → c ≡ leavesAt P → take c (take (d - 0) (drop 0 w)) ≡ circuitOf P w
-  lent-circuit c ec = ap₂ (λ (n : ℕ) (l : List ℕ). take n l) ec lent-all ∙ take-take (leavesAt P) (rootsAt P) w (let o = ordered P in omega arith)
+  pub rooms-circuit : (c : ℕ) → c ≡ leavesAt P → take c (take (d - 0) (drop 0 w)) ≡ circuitPart P w
+  rooms-circuit c ec = ap₂ (λ (n : ℕ) (l : List ℕ). take n l) ec lent-all ∙ take-take (leavesAt P) (rootsAt P) w (let m = mapped P in omega arith)
 
-  pub lent-leaves : (c k : ℕ) → c ≡ leavesAt P → k ≡ roomAt P - leavesAt P → take k (drop c (take (d - 0) (drop 0 w))) ≡ leavesOf P w
-  lent-leaves c k ec ek =
-      let o = ordered P in
+  pub rooms-leaves : (c k : ℕ) → c ≡ leavesAt P → k ≡ roomAt P - leavesAt P → take k (drop c (take (d - 0) (drop 0 w))) ≡ leavesPart P w
+  rooms-leaves c k ec ek =
+      let m = mapped P in
       ap₂ (λ (i j : ℕ). take j (drop i (take (d - 0) (drop 0 w)))) ec ek
       ∙ ap (λ (l : List ℕ). take (roomAt P - leavesAt P) (drop (leavesAt P) l)) lent-all
       ∙ sym (drop-take (leavesAt P) (roomAt P - leavesAt P) (take (rootsAt P) w))
@@ -217,14 +190,14 @@ module _ (P : Params) (w : List ℕ) (enough : roomEnd P ≤ length w) (d : ℕ)
       ∙ drop-take (leavesAt P) (roomAt P - leavesAt P) w
 
   module _ (last : List ℕ) (kept : length last ≡ length (take (d - 0) (drop 0 w))) where
-    pub back-circuit : (c : ℕ) → c ≡ leavesAt P → take c last ≡ take c (take (d - 0) (drop 0 w)) → circuitOf P (last ++ drop (d - 0) (drop 0 w)) ≡ circuitOf P w
-    back-circuit c ec h =
-        let o = ordered P in
-        let l = lent-length in
+    pub rooms-back-circuit : (c : ℕ) → c ≡ leavesAt P → take c last ≡ take c (take (d - 0) (drop 0 w)) → circuitPart P (last ++ drop (d - 0) (drop 0 w)) ≡ circuitPart P w
+    rooms-back-circuit c ec h =
+        let m = mapped P in
+        let l = rooms-length in
         take-append-le (leavesAt P) last (drop (d - 0) (drop 0 w)) (omega arith)
-        ∙ ap (λ (n : ℕ). take n last) (sym ec) ∙ h ∙ lent-circuit c ec
+        ∙ ap (λ (n : ℕ). take n last) (sym ec) ∙ h ∙ rooms-circuit c ec
 
-    pub back-rest : drop (rootsAt P) (last ++ drop (d - 0) (drop 0 w)) ≡ drop (rootsAt P) w
-    back-rest =
-        drop-at last (drop (d - 0) (drop 0 w)) (rootsAt P) (kept ∙ lent-length)
+    pub rooms-back-rest : drop (rootsAt P) (last ++ drop (d - 0) (drop 0 w)) ≡ drop (rootsAt P) w
+    rooms-back-rest =
+        drop-at last (drop (d - 0) (drop 0 w)) (rootsAt P) (kept ∙ rooms-length)
         ∙ ap (λ (n : ℕ). drop n w) (let q : d - 0 ≡ rootsAt P = omega arith in q)

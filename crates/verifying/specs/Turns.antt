@@ -19,22 +19,22 @@ use Rattle.verifying.specs.declared.Both.{Both}
 
 -- ---- parts of work
 
-abbrev pub circuitOf : Params → List ℕ → List ℕ
-circuitOf P work = take (leavesAt P) work
+abbrev pub circuitPart : Params → List ℕ → List ℕ
+circuitPart P work = take (leavesAt P) work
 
-abbrev pub leavesOf : Params → List ℕ → List ℕ
-leavesOf P work = take (roomAt P - leavesAt P) (drop (leavesAt P) work)
+abbrev pub leavesPart : Params → List ℕ → List ℕ
+leavesPart P work = take (roomAt P - leavesAt P) (drop (leavesAt P) work)
 
-abbrev pub challengesOf : Params → List ℕ → List ℕ
-challengesOf P work = take (roomEnd P - challengesAt P) (drop (challengesAt P) work)
+abbrev pub challengesPart : Params → List ℕ → List ℕ
+challengesPart P work = take (roomEnd P - challengesAt P) (drop (challengesAt P) work)
 
 module _ (P : Params) (key : PublicKey) (σ : Signature) where
   -- ---- once for all repetitions
 
   -- lines 3, 5 and 6: the circuit and the challenges stand in work, the hidden parties in a list of their own
   pub record Expanded (parties work : List ℕ) : Type 0 where
-    pub circuit : HoldsCircuit (P .n) (P .m) (verify.f P key) (circuitOf P work)
-    pub challenge : (e : ℕ) → 1 ≤ e → e ≤ P .tau → challengeIn (P .m) (challengesOf P work) e ≡ verify.ε P key σ e
+    pub circuit : HoldsCircuit (P .n) (P .m) (verify.f P key) (circuitPart P work)
+    pub challenge : (e : ℕ) → 1 ≤ e → e ≤ P .tau → challengeIn (P .m) (challengesPart P work) e ≡ verify.ε P key σ e
     pub hidden : (e : ℕ) → 1 ≤ e → e ≤ P .tau → hiddenIn (P .l) parties e ≡ verify.hidden P key σ e
 
   -- ---- for one repetition
@@ -55,7 +55,7 @@ module _ (P : Params) (key : PublicKey) (σ : Signature) where
   secondOf e = second (verify.αs P key σ e) (verify.allV P key σ e)
 
   -- one repetition more
-  pub record Turned (e : ℕ) (before after : Both) : Type 0 where
+  pub record TurnHashed (e : ℕ) (before after : Both) : Type 0 where
     pub first : after .first ≡ absorbed (before .first) (firstOf e)
     pub second : after .second ≡ absorbed (before .second) (secondOf e)
 

@@ -1,6 +1,9 @@
 // Verifying, algorithm 13 of the submission: the circuit, the challenges and the hidden parties are expanded once; then each repetition rebuilds the other parties' seeds
 // and gives commitments and corrections to the first hash, answers to the second; both are compared with the signature's. Everything here is public.
+use biscuit::VALUES;
 use group::Rep;
+use sets::LONGEST_HASH;
+use sets::MOST_REPETITIONS;
 use sets::Params;
 use sponge::Sponge;
 ghost use mathlib.Core.Path.{_≡_};
@@ -17,20 +20,11 @@ ghost use Rattle.forms.specs.Room.{HoldsCircuit, challengeIn};
 ghost use Rattle.parties.specs.Parties.{parties};
 ghost use Rattle.parties.specs.Repetition.{givenAt};
 ghost use Rattle.biscuit.specs.Keys.{PublicKey, publicKeyOf};
-ghost use Rattle.biscuit.specs.Signature.{shownAt, packingAt, openingOf, extracted};
+ghost use Rattle.biscuit.specs.Signature.{shownAt, openingOf, extracted};
 ghost use Rattle.biscuit.specs.Verify as verify;
 ghost use Rattle.refusals.specs.Refusals.{workLength};
 ghost use Rattle.biscuit.specs.Room.{Fits, leavesAt, rootsAt, roomEnd};
-ghost use Rattle.verifying.specs.Turns.{circuitOf, leavesOf, challengesOf, Expanded, valuesOf, leaves, firstOf, secondOf, Turned, Hashed};
-
-// The most repetitions that a set has.
-const REPETITIONS: usize = 73;
-
-// The bytes of the longest hash.
-const HASH: usize = 64;
-
-// The elements that a repetition needs at the largest set: Δs, Δc, the challenge, t and the hidden party's α.
-const VALUES: usize = 602;
+ghost use Rattle.verifying.specs.Turns.{circuitPart, leavesPart, challengesPart, Expanded, valuesOf, leaves, firstOf, secondOf, TurnHashed, Hashed};
 
 // The two hashes, as far as they have absorbed.
 pub struct Both {
@@ -44,7 +38,7 @@ pub fn accepts(p: Params, pk: &[u8], message: &[u8], signature: &[u8], work: &mu
     ensures { λ r. ⌜ r ≡ verify.accepts p (now (pk .entry)) (now (message .entry)) (now (signature .entry)) ⌝ }
 {
     let tau = p.tau;
-    let mut parties = [0u8; REPETITIONS];
+    let mut parties = [0u8; MOST_REPETITIONS];
     accepts_in(p, pk, message, signature, &mut parties[0..tau], work)
 }
 
@@ -129,7 +123,7 @@ fn turn(
     work: &mut [u8],
 ) -> Both
     requires { ⌜ (Fits p) × (1 ≤ e) × (e ≤ p .tau) × (length (now pk) ≡ publicKeyLength p) × (length (now signature) ≡ signatureLength p) × (length (now parties) ≡ p .tau) × (roomEnd p ≤ length (now work)) × (Expanded p (publicKeyOf p (now pk)) (extracted p (now signature)) (now parties) (now work)) ⌝ }
-    ensures turned { λ r. ⌜ Turned p (publicKeyOf p (now (pk .entry))) (extracted p (now (signature .entry))) e both r ⌝ }
+    ensures turned { λ r. ⌜ TurnHashed p (publicKeyOf p (now (pk .entry))) (extracted p (now (signature .entry))) e both r ⌝ }
     ensures kept { λ r. ⌜ Expanded p (publicKeyOf p (now (pk .entry))) (extracted p (now (signature .entry))) (now (parties .entry)) (now (work .exit)) ⌝ }
 {
     let n = p.n + p.m + p.m + p.m + p.m;
@@ -149,7 +143,7 @@ fn turn_in(
     work: &mut [u8],
 ) -> Both
     requires { ⌜ (Fits p) × (1 ≤ e) × (e ≤ p .tau) × (length (now pk) ≡ publicKeyLength p) × (length (now signature) ≡ signatureLength p) × (length (now parties) ≡ p .tau) × (length (now values) ≡ p .n + p .m + p .m + p .m + p .m) × (roomEnd p ≤ length (now work)) × (Expanded p (publicKeyOf p (now pk)) (extracted p (now signature)) (now parties) (now work)) ⌝ }
-    ensures turned { λ r. ⌜ Turned p (publicKeyOf p (now (pk .entry))) (extracted p (now (signature .entry))) e both r ⌝ }
+    ensures turned { λ r. ⌜ TurnHashed p (publicKeyOf p (now (pk .entry))) (extracted p (now (signature .entry))) e both r ⌝ }
     ensures kept { λ r. ⌜ Expanded p (publicKeyOf p (now (pk .entry))) (extracted p (now (signature .entry))) (now (parties .entry)) (now (work .exit)) ⌝ }
 {
     let party = forms::hidden_party(parties, p.l, e);
@@ -161,7 +155,7 @@ fn turn_in(
 // Δs, Δc, the challenge, t and the hidden party's α of repetition e, an element to a byte.
 fn read_values(p: Params, e: usize, pk: &[u8], signature: &[u8], work: &[u8], values: &mut [u8])
     requires { ⌜ (Fits p) × (1 ≤ e) × (e ≤ p .tau) × (length (now pk) ≡ publicKeyLength p) × (length (now signature) ≡ signatureLength p) × (length (now values) ≡ p .n + p .m + p .m + p .m + p .m) × (roomEnd p ≤ length (now work)) ⌝ }
-    ensures { λ r. ⌜ now (values .exit) ≡ (openingOf p (now (signature .entry)) e .Δs ++ openingOf p (now (signature .entry)) e .Δc) ++ (challengeIn (p .m) (challengesOf p (now (work .entry))) e ++ (publicKeyOf p (now (pk .entry)) .t ++ openingOf p (now (signature .entry)) e .α)) ⌝ }
+    ensures { λ r. ⌜ now (values .exit) ≡ (openingOf p (now (signature .entry)) e .Δs ++ openingOf p (now (signature .entry)) e .Δc) ++ (challengeIn (p .m) (challengesPart p (now (work .entry))) e ++ (publicKeyOf p (now (pk .entry)) .t ++ openingOf p (now (signature .entry)) e .α)) ⌝ }
 {
     let a = p.n + p.m;
     let b = a + p.m;
@@ -186,7 +180,7 @@ fn read_corrections(p: Params, e: usize, signature: &[u8], out: &mut [u8])
 // The challenge of repetition e.
 fn read_challenge(p: Params, e: usize, work: &[u8], out: &mut [u8])
     requires { ⌜ (Fits p) × (1 ≤ e) × (e ≤ p .tau) × (roomEnd p ≤ length (now work)) × (length (now out) ≡ p .m) ⌝ }
-    ensures { λ r. ⌜ now (out .exit) ≡ challengeIn (p .m) (challengesOf p (now (work .entry))) e ⌝ }
+    ensures { λ r. ⌜ now (out .exit) ≡ challengeIn (p .m) (challengesPart p (now (work .entry))) e ⌝ }
 {
     let layout = biscuit::layout_of(p);
     let a = layout.challenges;
@@ -259,8 +253,8 @@ fn absorb(
     work: &mut [u8],
 ) -> Both
     requires { ⌜ (Fits p) × (1 ≤ e) × (e ≤ p .tau) × (length (now signature) ≡ signatureLength p) × (length (now values) ≡ p .n + p .m + p .m + p .m + p .m) × (Elements (now values)) × (roomEnd p ≤ length (now work)) ⌝ }
-    ensures turned { λ r. ⌜ ((key : PublicKey) → party ≡ verify.hidden p key (extracted p (now (signature .entry))) e → now (values .entry) ≡ valuesOf p key (extracted p (now (signature .entry))) e → leavesOf p (now (work .entry)) ≡ leaves p key (extracted p (now (signature .entry))) e → HoldsCircuit (p .n) (p .m) (verify.f p key) (circuitOf p (now (work .entry))) → Turned p key (extracted p (now (signature .entry))) e both r) ⌝ }
-    ensures circuit { λ r. ⌜ circuitOf p (now (work .exit)) ≡ circuitOf p (now (work .entry)) ⌝ }
+    ensures turned { λ r. ⌜ ((key : PublicKey) → party ≡ verify.hidden p key (extracted p (now (signature .entry))) e → now (values .entry) ≡ valuesOf p key (extracted p (now (signature .entry))) e → leavesPart p (now (work .entry)) ≡ leaves p key (extracted p (now (signature .entry))) e → HoldsCircuit (p .n) (p .m) (verify.f p key) (circuitPart p (now (work .entry))) → TurnHashed p key (extracted p (now (signature .entry))) e both r) ⌝ }
+    ensures circuit { λ r. ⌜ circuitPart p (now (work .exit)) ≡ circuitPart p (now (work .entry)) ⌝ }
     ensures challenges { λ r. ⌜ drop (rootsAt p) (now (work .exit)) ≡ drop (rootsAt p) (now (work .entry)) ⌝ }
 {
     let a = both.first;
@@ -281,7 +275,7 @@ fn absorb_first(
     work: &[u8],
 ) -> Sponge
     requires { ⌜ (Fits p) × (1 ≤ e) × (e ≤ p .tau) × (length (now signature) ≡ signatureLength p) × (length (now values) ≡ p .n + p .m + p .m + p .m + p .m) × (roomEnd p ≤ length (now work)) ⌝ }
-    ensures { λ r. ⌜ ((key : PublicKey) → party ≡ verify.hidden p key (extracted p (now (signature .entry))) e → now (values .entry) ≡ valuesOf p key (extracted p (now (signature .entry))) e → leavesOf p (now (work .entry)) ≡ leaves p key (extracted p (now (signature .entry))) e → r ≡ absorbed hash (firstOf p key (extracted p (now (signature .entry))) e)) ⌝ }
+    ensures { λ r. ⌜ ((key : PublicKey) → party ≡ verify.hidden p key (extracted p (now (signature .entry))) e → now (values .entry) ≡ valuesOf p key (extracted p (now (signature .entry))) e → leavesPart p (now (work .entry)) ≡ leaves p key (extracted p (now (signature .entry))) e → r ≡ absorbed hash (firstOf p key (extracted p (now (signature .entry))) e)) ⌝ }
 {
     let next = absorb_commitments(hash, p, e, party, signature, work);
     let a = p.n;
@@ -299,7 +293,7 @@ fn absorb_commitments(
     work: &[u8],
 ) -> Sponge
     requires { ⌜ (Fits p) × (1 ≤ e) × (e ≤ p .tau) × (length (now signature) ≡ signatureLength p) × (roomEnd p ≤ length (now work)) ⌝ }
-    ensures { λ r. ⌜ r ≡ absorbed hash (flatten (parties (givenAt (openingOf p (now (signature .entry)) e .commitment) party (commit (S p) (extracted p (now (signature .entry)) .salt) e)) (pieces (S p) (N p) (leavesOf p (now (work .entry)))))) ⌝ }
+    ensures { λ r. ⌜ r ≡ absorbed hash (flatten (parties (givenAt (openingOf p (now (signature .entry)) e .commitment) party (commit (S p) (extracted p (now (signature .entry)) .salt) e)) (pieces (S p) (N p) (leavesPart p (now (work .entry)))))) ⌝ }
 {
     let s = p.bits / 8;
     let n = parties::count(p);
@@ -332,8 +326,8 @@ fn absorb_second(
     work: &mut [u8],
 ) -> Sponge
     requires { ⌜ (Fits p) × (1 ≤ e) × (e ≤ p .tau) × (length (now signature) ≡ signatureLength p) × (length (now values) ≡ p .n + p .m + p .m + p .m + p .m) × (Elements (now values)) × (roomEnd p ≤ length (now work)) ⌝ }
-    ensures answered { λ r. ⌜ ((key : PublicKey) → party ≡ verify.hidden p key (extracted p (now (signature .entry))) e → now (values .entry) ≡ valuesOf p key (extracted p (now (signature .entry))) e → leavesOf p (now (work .entry)) ≡ leaves p key (extracted p (now (signature .entry))) e → HoldsCircuit (p .n) (p .m) (verify.f p key) (circuitOf p (now (work .entry))) → r ≡ absorbed hash (secondOf p key (extracted p (now (signature .entry))) e)) ⌝ }
-    ensures circuit { λ r. ⌜ circuitOf p (now (work .exit)) ≡ circuitOf p (now (work .entry)) ⌝ }
+    ensures answered { λ r. ⌜ ((key : PublicKey) → party ≡ verify.hidden p key (extracted p (now (signature .entry))) e → now (values .entry) ≡ valuesOf p key (extracted p (now (signature .entry))) e → leavesPart p (now (work .entry)) ≡ leaves p key (extracted p (now (signature .entry))) e → HoldsCircuit (p .n) (p .m) (verify.f p key) (circuitPart p (now (work .entry))) → r ≡ absorbed hash (secondOf p key (extracted p (now (signature .entry))) e)) ⌝ }
+    ensures circuit { λ r. ⌜ circuitPart p (now (work .exit)) ≡ circuitPart p (now (work .entry)) ⌝ }
     ensures challenges { λ r. ⌜ drop (rootsAt p) (now (work .exit)) ≡ drop (rootsAt p) (now (work .entry)) ⌝ }
 {
     let s = p.bits / 8;
@@ -372,7 +366,7 @@ fn agrees(hash: Sponge, wanted: &[u8]) -> bool
     ensures { λ r. ⌜ r ≡ same (now (wanted .entry)) (given (finished hash) (length (now (wanted .entry)))) ⌝ }
 {
     let n = wanted.len();
-    let mut room = [0u8; HASH];
+    let mut room = [0u8; LONGEST_HASH];
     agrees_in(hash, wanted, &mut room[0..n])
 }
 

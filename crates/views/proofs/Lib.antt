@@ -1,3 +1,4 @@
 pub mod Absorbing
 pub mod Entries
+pub mod OneOutcome
 pub mod Sums

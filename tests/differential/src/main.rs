@@ -1,7 +1,8 @@
 //! Runs each call of the proved desk and of the independent program on the same bytes, and compares the answer and every byte that was lent.
 
-mod calls;
+mod envelopes;
 
+use biscuit::raw as calls;
 use independent::desk;
 use independent::sets::{Parameters, SETS};
 use std::collections::BTreeSet;
@@ -304,6 +305,7 @@ fn genuine(p: &Parameters, dice: &mut Dice, reached: &mut Reached) {
     let mut wrong = sk.clone();
     wrong[0] ^= 1;
     assert_eq!(public_half(p.set, &wrong, &y, &work(dice), reached).0, 8);
+    envelopes::run(p, &pk, &signature, dice, reached);
     edges(p, &sk, &pk, &signature, dice, reached);
     for _ in 0..60 {
         hostile(p, &sk, &pk, dice, reached);
@@ -318,11 +320,13 @@ fn main() {
         genuine(p, &mut dice, &mut reached);
         println!("set {}: the same answers and the same bytes", p.set);
     }
-    let wanted: [(&str, &[u8]); 4] = [
+    let wanted: [(&str, &[u8]); 6] = [
         ("make keys", &[0, 1, 2, 6, 7]),
         ("public half", &[0, 1, 4, 6, 7, 8]),
         ("sign", &[0, 1, 2, 3, 4, 6, 7, 8]),
         ("verify", &[0, 1, 3, 4, 5, 7, 9]),
+        ("write", &[0, 1, 3, 4, 5, 6]),
+        ("read", &[0, 1, 3, 10, 11]),
     ];
     for (call, numbers) in wanted {
         for &number in numbers {

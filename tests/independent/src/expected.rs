@@ -1,6 +1,7 @@
 //! The expected output of the test programs: one line a case, the case named, bytes in lower-case
 //! hexadecimal.
 
+use crate::clips;
 use crate::field::pack;
 use crate::forms::{eval_circuit, expand_circuit, linear_values, Circuit};
 use crate::hashes::{h1, h2};
@@ -20,6 +21,7 @@ pub fn expected(name: &str) -> Option<String> {
         "tree" => Some(of_sets(&[1, 2, 3, 4, 5, 6], tree)),
         "forms" => Some(of_sets(&[1, 2, 3, 4, 5, 6], forms)),
         "parties" => Some(of_sets(&[2, 5], parties)),
+        "clip" => Some(clips::lines()),
         _ => None,
     }
 }

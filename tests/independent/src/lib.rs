@@ -3,6 +3,7 @@
 //! code follows a line of an algorithm. "Algorithm" with a number means one of the submission.
 
 pub mod biscuit;
+pub mod clips;
 pub mod desk;
 pub mod envelope;
 pub mod expected;

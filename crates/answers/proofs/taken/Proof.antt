@@ -71,7 +71,7 @@ returns c = λ g αs ys ws packs ia iy iw.
       second-form = summed g m ys _ _ _ (s .pre .5) (s .pre .2) (c .before .before .before .before .before .before .before .before .before .before .before .before .before .before .before .add-words2 .ensures) iy;
       rest = summed g m ws _ _ _ (s .pre .6) (s .pre .3) (c .before .before .before .before .before .before .before .before .before .before .before .add-words3 .ensures) iw;
       kept = held-group g m ys ws _ _ (s .args .part .now) (c .before .before .before .before .before .before .before .store-words .last .1 .0) (c .before .before .before .store-words2 .last .1 .0) _ _ refl refl (s .pre .7) (s .pre .2) (s .pre .3) (c .before .before .before .before .before .before .before .store-words .kept .1 .0) (c .before .before .before .store-words2 .kept .1 .0)
-          (c .before .before .before .before .before .before .before .store-words .ensures) (c .before .before .before .store-words2 .ensures) iy iw;
+          (c .before .before .before .before .before .before .before .store-words .ensures .elements) (c .before .before .before .store-words2 .ensures .elements) iy iw;
     }
 
 pub taken-spec : {M : Type 1} → statement M

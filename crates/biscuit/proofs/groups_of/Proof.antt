@@ -1,6 +1,5 @@
 -- `biscuit::groups_of` meets its contract. Assumes nothing.
 use native.Mathlib.Omega.{arith}
-use borrow.Author.Needs.{needs}
 use Rattle.biscuit.proofs.Room.{shifted-groups}
 use Rattle.biscuit.proofs.groups_of.Statement.{statement}
 use Rattle.biscuit.proofs.groups_of.Tie as tie

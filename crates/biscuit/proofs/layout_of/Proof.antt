@@ -1,8 +1,6 @@
 -- `biscuit::layout_of` meets its contract: no sum is larger than the last one. Assumes nothing.
 use mathlib.Core.Path.{refl}
-use Prim.Native.Nat.{ℕ, _+_, _*_, _/_}
 use native.Mathlib.Omega.{arith}
-use borrow.Author.Needs.{needs}
 use Rattle.field.specs.Packing.{packedLength}
 use Rattle.sets.specs.Sets.{S}
 use Rattle.biscuit.specs.Room.{leavesAt, roomAt, rootsAt, challengesAt, roomEnd}
@@ -21,7 +19,8 @@ mul-room c =
     let k = c in
     let s = k .before .before .before in
     let bound = sums-bounded _ (s .pre) _ _ (k .before .groups-of .ensures) (k .circuit-len .ensures) in
-    let few = few-groups _ (s .pre) _ _ (k .before .groups-of .ensures) (k .circuit-len .ensures) in
+    let count = k .before .groups-of .ensures in
+    let few = few-groups _ (s .pre) in
     let most = s .pre .equations in
     omega arith
 
@@ -30,7 +29,8 @@ mul-room-2 c =
     let k = c in
     let s = k .before .before .before in
     let bound = sums-bounded _ (s .pre) _ _ (k .before .groups-of .ensures) (k .circuit-len .ensures) in
-    let few = few-groups _ (s .pre) _ _ (k .before .groups-of .ensures) (k .circuit-len .ensures) in
+    let count = k .before .groups-of .ensures in
+    let few = few-groups _ (s .pre) in
     let most = s .pre .equations in
     omega arith
 
@@ -39,7 +39,8 @@ add-room c =
     let k = c in
     let s = k .before .before .before in
     let bound = sums-bounded _ (s .pre) _ _ (k .before .groups-of .ensures) (k .circuit-len .ensures) in
-    let few = few-groups _ (s .pre) _ _ (k .before .groups-of .ensures) (k .circuit-len .ensures) in
+    let count = k .before .groups-of .ensures in
+    let few = few-groups _ (s .pre) in
     let most = s .pre .equations in
     omega arith
 
@@ -48,7 +49,8 @@ mul-roots c =
     let k = c .before in
     let s = k .before .before .before in
     let bound = sums-bounded _ (s .pre) _ _ (k .before .groups-of .ensures) (k .circuit-len .ensures) in
-    let few = few-groups _ (s .pre) _ _ (k .before .groups-of .ensures) (k .circuit-len .ensures) in
+    let count = k .before .groups-of .ensures in
+    let few = few-groups _ (s .pre) in
     let most = s .pre .equations in
     omega arith
 
@@ -57,7 +59,8 @@ mul-roots-2 c =
     let k = c .before in
     let s = k .before .before .before in
     let bound = sums-bounded _ (s .pre) _ _ (k .before .groups-of .ensures) (k .circuit-len .ensures) in
-    let few = few-groups _ (s .pre) _ _ (k .before .groups-of .ensures) (k .circuit-len .ensures) in
+    let count = k .before .groups-of .ensures in
+    let few = few-groups _ (s .pre) in
     let most = s .pre .equations in
     omega arith
 
@@ -66,7 +69,8 @@ add-roots c =
     let k = c .before in
     let s = k .before .before .before in
     let bound = sums-bounded _ (s .pre) _ _ (k .before .groups-of .ensures) (k .circuit-len .ensures) in
-    let few = few-groups _ (s .pre) _ _ (k .before .groups-of .ensures) (k .circuit-len .ensures) in
+    let count = k .before .groups-of .ensures in
+    let few = few-groups _ (s .pre) in
     let most = s .pre .equations in
     omega arith
 
@@ -75,7 +79,8 @@ mul-challenges c =
     let k = c .before .before in
     let s = k .before .before .before in
     let bound = sums-bounded _ (s .pre) _ _ (k .before .groups-of .ensures) (k .circuit-len .ensures) in
-    let few = few-groups _ (s .pre) _ _ (k .before .groups-of .ensures) (k .circuit-len .ensures) in
+    let count = k .before .groups-of .ensures in
+    let few = few-groups _ (s .pre) in
     let most = s .pre .equations in
     omega arith
 
@@ -84,7 +89,8 @@ add-challenges c =
     let k = c .before .before in
     let s = k .before .before .before in
     let bound = sums-bounded _ (s .pre) _ _ (k .before .groups-of .ensures) (k .circuit-len .ensures) in
-    let few = few-groups _ (s .pre) _ _ (k .before .groups-of .ensures) (k .circuit-len .ensures) in
+    let count = k .before .groups-of .ensures in
+    let few = few-groups _ (s .pre) in
     let most = s .pre .equations in
     omega arith
 
@@ -93,7 +99,8 @@ add-t9 c =
     let k = c .before .before .before in
     let s = k .before .before .before in
     let bound = sums-bounded _ (s .pre) _ _ (k .before .groups-of .ensures) (k .circuit-len .ensures) in
-    let few = few-groups _ (s .pre) _ _ (k .before .groups-of .ensures) (k .circuit-len .ensures) in
+    let count = k .before .groups-of .ensures in
+    let few = few-groups _ (s .pre) in
     let most = s .pre .equations in
     omega arith
 
@@ -102,7 +109,8 @@ mul-t10 c =
     let k = c .before .before .before .before in
     let s = k .before .before .before in
     let bound = sums-bounded _ (s .pre) _ _ (k .before .groups-of .ensures) (k .circuit-len .ensures) in
-    let few = few-groups _ (s .pre) _ _ (k .before .groups-of .ensures) (k .circuit-len .ensures) in
+    let count = k .before .groups-of .ensures in
+    let few = few-groups _ (s .pre) in
     let most = s .pre .equations in
     omega arith
 
@@ -111,7 +119,8 @@ add-t11 c =
     let k = c .before .before .before .before in
     let s = k .before .before .before in
     let bound = sums-bounded _ (s .pre) _ _ (k .before .groups-of .ensures) (k .circuit-len .ensures) in
-    let few = few-groups _ (s .pre) _ _ (k .before .groups-of .ensures) (k .circuit-len .ensures) in
+    let count = k .before .groups-of .ensures in
+    let few = few-groups _ (s .pre) in
     let most = s .pre .equations in
     omega arith
 

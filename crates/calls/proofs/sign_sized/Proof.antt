@@ -66,7 +66,6 @@ same-length-2 : tie.Need-same-length-2
 same-length-2 c = search needs
 
 returns : tie.Need-returns
-unfolding signature
 returns c =
     let s = c .before .before .before .before .before .before .before .before .before .before .before .before .before .before .before .before .before .before .before .before in
     let r = sign-right (s .args .set) (length (s .args .secret-key .now)) (length (s .args .message .now)) (length (s .args .random .now)) (length (s .args .signature .now)) (length (s .args .work .now)) (s .pre) in
@@ -85,7 +84,6 @@ same-length-4 : tie.Need-same-length-4
 same-length-4 c = search needs
 
 returns-2 : tie.Need-returns-2
-unfolding signature
 returns-2 c =
     let s = c .before .before .before .before .before .before .before .before .before .before .before .before .before .before .before .before .before .before .before .before in
     let r = sign-right (s .args .set) (length (s .args .secret-key .now)) (length (s .args .message .now)) (length (s .args .random .now)) (length (s .args .signature .now)) (length (s .args .work .now)) (s .pre) in

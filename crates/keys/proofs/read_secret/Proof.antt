@@ -2,7 +2,7 @@
 use mathlib.Core.Path.{_∙_}
 use native.Mathlib.Omega.{arith}
 use borrow.Author.Needs.{needs}
-use Rattle.keys.proofs.Read.{seed-inside, secret-read}
+use Rattle.keys.proofs.Read.{seed-inside, elements-read}
 use Rattle.keys.proofs.read_secret.Statement.{statement}
 use Rattle.keys.proofs.read_secret.Tie as tie
 
@@ -30,7 +30,7 @@ same-length c = search needs
 returns : tie.Need-returns
 returns c =
     let s = c .before .before .before .before .before .before .before .before in
-    c .before .before .unpack-into .ensures ∙ secret-read (s .args .p) (s .args .sk .now) _ (s .pre .2)
+    c .before .before .unpack-into .ensures ∙ elements-read (s .args .p) (s .args .sk .now) _ (s .pre .2)
 
 pub read-secret-spec : {M : Type 1} → statement M
 read-secret-spec =

@@ -3,7 +3,8 @@ use mathlib.Core.Path.{ap, _∙_}
 use native.Mathlib.Omega.{arith}
 use lib.ListN.{length}
 use borrow.Author.Needs.{needs}
-use Rattle.keys.proofs.Read.{seed-inside, length-packed, half-size, half-bytes}
+use Rattle.biscuit.proofs.Keys.{length-packed}
+use Rattle.keys.proofs.Read.{seed-inside, half-size, half-bytes}
 use Rattle.keys.proofs.write_half.Statement.{statement}
 use Rattle.keys.proofs.write_half.Tie as tie
 

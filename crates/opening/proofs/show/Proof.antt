@@ -6,7 +6,7 @@ use native.Mathlib.Omega.{arith}
 use Rattle.sets.specs.Sets.{S}
 use Rattle.opening.specs.Shown.{leafUnder, shownUnder}
 use Rattle.opening.proofs.Showing.{part-put, section-size, under-part}
-use Rattle.opening.proofs.Turning.{hidden-first, hidden-last}
+use Rattle.biscuit.proofs.Room.{hidden-from-one, hidden-within}
 use borrow.Author.Needs.{needs}
 use Rattle.opening.proofs.show.Statement.{statement}
 use Rattle.opening.proofs.show.Tie as tie
@@ -73,8 +73,8 @@ show-one-requires c κs =
     let a = c .before .before .before .before .before .before .before .before .before .args in
     let h = c .before .before .before .before .before .before .before .before .before .pre in
     let e = c .before .before .hidden-party .ensures in
-    let f = hidden-first _ _ _ _ e in
-    let t = hidden-last _ _ _ _ e in
+    let f = hidden-from-one (a .p .l) (a .hidden .now) (a .i + 1) in
+    let t = hidden-within (a .p .l) (a .hidden .now) (a .i + 1) in
     (omega arith, omega arith, omega arith, omega arith, omega arith, section-size _ _ (a .p .l) (S (a .p)) (omega arith) (omega arith))
 
 same-length : tie.Need-same-length

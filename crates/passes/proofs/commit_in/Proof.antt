@@ -3,7 +3,8 @@ use mathlib.Core.Path.{sym, ap, _∙_}
 use native.Mathlib.Omega.{arith}
 use Prim.Native.Nat.{_*_}
 use Rattle.sets.specs.Sets.{S}
-use Rattle.passes.proofs.Committing.{corrections-secret, corrections-helper, committed-turn, part-secret, part-helper, some-groups, groups-few}
+use Rattle.biscuit.proofs.Room.{some-groups, few-groups}
+use Rattle.passes.proofs.Committing.{corrections-secret, corrections-helper, committed-turn, part-secret, part-helper}
 use borrow.Author.Needs.{needs}
 use Rattle.passes.proofs.commit_in.Statement.{statement}
 use Rattle.passes.proofs.commit_in.Tie as tie
@@ -12,7 +13,7 @@ groups-of-requires : tie.Need-groups-of-requires
 groups-of-requires c κs = c .before .before .before .before .before .before .pre .0
 
 mul-count : tie.Need-mul-count
-mul-count c = let b = groups-few _ (c .before .before .before .before .before .before .before .pre .0) in let g = c .groups-of .ensures in omega arith
+mul-count c = let b = few-groups _ (c .before .before .before .before .before .before .before .pre .0) in let g = c .groups-of .ensures in omega arith
 
 add-a : tie.Need-add-a
 add-a c = search needs
@@ -44,7 +45,7 @@ repetition-first-requires c κs =
     let h = s .pre in
     let f = h .0 in
     let g = c .before .before .before .before .before .before .groups-of .ensures in
-    let o = some-groups _ f in
+    let o = some-groups (s .args .p) in
     let q = h .3 in
     let b = f .seed in
     (omega arith, f .seed, omega arith, h .6 ∙ ap (λ n. 16 * n * S (s .args .p)) (sym g), f .variables, f .equations, part-secret (s .args .p) _ (h .4), part-helper (s .args .p) _ (h .4), h .7, h .8)

@@ -2,8 +2,7 @@
 use mathlib.Core.Path.{ap, _∙_}
 use native.Mathlib.Omega.{arith}
 use lib.ListN.{length}
-use Rattle.refusals.proofs.Refusals.{workLength-is}
-use Rattle.passes.proofs.Bounds.{mapped}
+use Rattle.biscuit.proofs.Room.{mapped}
 use Rattle.passes.proofs.Planting.{planted-part, length-planted, planted-kept}
 use Rattle.passes.proofs.Committing.{committed-seeds, kept-same}
 use Rattle.passes.proofs.commit_turn.Statement.{statement}
@@ -16,13 +15,13 @@ plant-requires : tie.Need-plant-requires
 plant-requires c κs = let h = c .before .before .before .before .before .before .pre in (h .0, h .1, h .2, h .3, h .7)
 
 sub-commit-leaves : tie.Need-sub-commit-leaves
-sub-commit-leaves c = let h = c .before .before .before .before .before .before .before .before .before .pre in let m = mapped _ (h .0) in let k = c .before .before .before .before .layout-of .ensures in omega (arith, k .leaves, k .room)
+sub-commit-leaves c = let s = c .before .before .before .before .before .before .before .before .before in let h = s .pre in let m = mapped (s .args .p) in let enough = h .0 .enough in let k = c .before .before .before .before .layout-of .ensures in omega (arith, k .leaves, k .room)
 
 part-commit-leaves-start : tie.Need-part-commit-leaves-start
-part-commit-leaves-start c = let h = c .before .before .before .before .before .before .before .before .before .before .pre in let m = mapped _ (h .0) in let k = c .before .before .before .before .before .layout-of .ensures in omega (arith, k .leaves, k .room)
+part-commit-leaves-start c = let s = c .before .before .before .before .before .before .before .before .before .before in let h = s .pre in let m = mapped (s .args .p) in let enough = h .0 .enough in let k = c .before .before .before .before .before .layout-of .ensures in omega (arith, k .leaves, k .room)
 
 part-commit-leaves-end : tie.Need-part-commit-leaves-end
-part-commit-leaves-end c = let h = c .before .before .before .before .before .before .before .before .before .before .pre in let m = mapped _ (h .0) in let k = c .before .before .before .before .before .layout-of .ensures in let w = workLength-is in let l = c .before .before .before .plant .kept .1 .1 .1 .0 ∙ h .7 in omega (arith, k .leaves, k .room)
+part-commit-leaves-end c = let s = c .before .before .before .before .before .before .before .before .before .before in let h = s .pre in let m = mapped (s .args .p) in let enough = h .0 .enough in let k = c .before .before .before .before .before .layout-of .ensures in let l = c .before .before .before .plant .kept .1 .1 .1 .0 ∙ h .7 in omega (arith, k .leaves, k .room)
 
 commit-leaves-requires : tie.Need-commit-leaves-requires
 commit-leaves-requires c κs =
@@ -34,8 +33,8 @@ commit-leaves-requires c κs =
       h .3,
       h .4,
       h .5,
-      ap length (planted-part (s .args .p) (h .0) (s .args .salt .now) (s .args .work .now) (h .7 ∙ workLength-is) (s .args .e) (h .1) (h .2) _ _ (c .before .before .before .before .before .before .before .layout-of .ensures) (c .before .before .before .before .before .plant .ensures))
-          ∙ length-planted (s .args .p) (h .0) (s .args .salt .now) (s .args .work .now) (h .7 ∙ workLength-is) (s .args .e) (h .1) (h .2),
+      ap length (planted-part (s .args .p) (h .0) (s .args .salt .now) (s .args .work .now) (h .7) (s .args .e) (h .1) (h .2) _ _ (c .before .before .before .before .before .before .before .layout-of .ensures) (c .before .before .before .before .before .plant .ensures))
+          ∙ length-planted (s .args .p) (h .0) (s .args .salt .now) (s .args .work .now) (h .7) (s .args .e) (h .1) (h .2),
       h .6,
     )
 
@@ -49,8 +48,8 @@ returns : tie.Need-returns
 returns c =
     let s = c .before .before .before .before .before .before .before .before .before .before .before .before .before .before .before in
     let h = s .pre in (
-      committed-seeds (s .args .p) (h .0) (s .args .salt .now) (s .args .work .now) (h .7 ∙ workLength-is) (s .args .e) (h .1) (h .2) _ _ (c .before .before .before .before .before .before .before .before .before .before .layout-of .ensures) (c .before .before .before .before .before .before .before .before .plant .ensures) _ _ _ _ _ (c .before .before .commit-leaves .ensures),
-      kept-same _ _ _ _ (c .before .before .before .before .before .before .before .before .plant .ensures) (planted-kept (s .args .p) (h .0) (s .args .salt .now) (s .args .work .now) (h .7 ∙ workLength-is) (s .args .e) (h .1) (h .2)),
+      committed-seeds (s .args .p) (h .0) (s .args .salt .now) (s .args .work .now) (h .7) (s .args .e) (h .1) (h .2) _ _ (c .before .before .before .before .before .before .before .before .before .before .layout-of .ensures) (c .before .before .before .before .before .before .before .before .plant .ensures) _ _ _ _ _ (c .before .before .commit-leaves .ensures),
+      kept-same _ _ _ _ (c .before .before .before .before .before .before .before .before .plant .ensures) (planted-kept (s .args .p) (h .0) (s .args .salt .now) (s .args .work .now) (h .7) (s .args .e) (h .1) (h .2)),
     )
 
 pub commit-turn-spec : {M : Type 1} → statement M

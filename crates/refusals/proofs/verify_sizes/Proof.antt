@@ -24,17 +24,17 @@ returns-2 c =
 public-key-len-requires : tie.Need-public-key-len-requires
 public-key-len-requires c κs = search needs
 
+signature-len-requires : tie.Need-signature-len-requires
+signature-len-requires c κs = search needs
+
 returns-3 : tie.Need-returns-3
 unfolding verifySizes
 returns-3 c =
     simp (
-      tested (c .before .before .before .before .bad-set .ensures) (c .before .before .before .if1 .left),
-      le-ltb _ _ (c .before .before .if2 .left),
-      differ (c .before .public-key-len .ensures) (c .if3 .taken),
+      tested (c .before .before .before .before .before .bad-set .ensures) (c .before .before .before .before .if1 .left),
+      le-ltb _ _ (c .before .before .before .if2 .left),
+      differ (c .before .before .public-key-len .ensures) (c .if3 .taken),
     )
-
-signature-len-requires : tie.Need-signature-len-requires
-signature-len-requires c κs = search needs
 
 returns-4 : tie.Need-returns-4
 unfolding verifySizes
@@ -42,8 +42,8 @@ returns-4 c =
     simp (
       tested (c .before .before .before .before .before .before .bad-set .ensures) (c .before .before .before .before .before .if1 .left),
       le-ltb _ _ (c .before .before .before .before .if2 .left),
-      agree (c .before .before .before .public-key-len .ensures) (c .before .before .if3 .left),
-      differ (c .before .signature-len .ensures) (c .if4 .taken),
+      agree (c .before .before .before .public-key-len .ensures) (c .before .if3 .left),
+      differ (c .before .before .signature-len .ensures) (c .if4 .taken),
     )
 
 returns-5 : tie.Need-returns-5
@@ -52,8 +52,8 @@ returns-5 c =
     simp (
       tested (c .before .before .before .before .before .before .before .bad-set .ensures) (c .before .before .before .before .before .before .if1 .left),
       le-ltb _ _ (c .before .before .before .before .before .if2 .left),
-      agree (c .before .before .before .before .public-key-len .ensures) (c .before .before .before .if3 .left),
-      agree (c .before .before .signature-len .ensures) (c .before .if4 .left),
+      agree (c .before .before .before .before .public-key-len .ensures) (c .before .before .if3 .left),
+      agree (c .before .before .before .signature-len .ensures) (c .before .if4 .left),
       work-short (c .if5 .taken),
     )
 
@@ -63,8 +63,8 @@ returns-6 c =
     simp (
       tested (c .before .before .before .before .before .before .before .bad-set .ensures) (c .before .before .before .before .before .before .if1 .left),
       le-ltb _ _ (c .before .before .before .before .before .if2 .left),
-      agree (c .before .before .before .before .public-key-len .ensures) (c .before .before .before .if3 .left),
-      agree (c .before .before .signature-len .ensures) (c .before .if4 .left),
+      agree (c .before .before .before .before .public-key-len .ensures) (c .before .before .if3 .left),
+      agree (c .before .before .before .signature-len .ensures) (c .before .if4 .left),
       work-enough (c .if5 .left),
     )
 
@@ -76,8 +76,8 @@ verify-sizes-spec =
     returns
     returns-2
     public-key-len-requires
-    returns-3
     signature-len-requires
+    returns-3
     returns-4
     returns-5
     returns-6)

@@ -4,7 +4,8 @@ use native.Mathlib.Omega.{arith}
 use Prim.Native.Nat.{_+_, _-_, _*_}
 use lib.ListN.{replicate}
 use lib.Seq.{length-take-le}
-use Rattle.replies.proofs.Hiding.{hidden-some, hidden-small, placed-party}
+use Rattle.biscuit.proofs.Room.{hidden-from-one}
+use Rattle.replies.proofs.Hiding.{hidden-small, placed-party}
 use borrow.Author.Needs.{needs}
 use Rattle.replies.proofs.alpha_turn.Statement.{statement}
 use Rattle.replies.proofs.alpha_turn.Tie as tie
@@ -43,7 +44,7 @@ alpha-in-requires c κs =
     let a = h .0 .variables in
     let b = h .0 .equations in
     let i = c .before .before .before .before .before .hidden-party .ensures in
-    let low = hidden-some (s .args .p .l) (s .args .hidden .now) (s .args .e) in
+    let low = hidden-from-one (s .args .p .l) (s .args .hidden .now) (s .args .e) in
     let high = hidden-small (s .args .p .l) (s .args .hidden .now) (s .args .e) (h .0 .levels) in
     (h .0, h .1, h .2, omega arith, omega arith, h .3, h .4, h .5, h .7, h .8, length-take-le (s .args .p .n + 4 * s .args .p .m - 0) (replicate 602 0) (omega arith) ∙ (let z : s .args .p .n + 4 * s .args .p .m - 0 ≡ s .args .p .n + 4 * s .args .p .m = omega arith in z), length-take-le (s .args .p .m - 0) (replicate 121 0) (omega arith) ∙ (let z : s .args .p .m - 0 ≡ s .args .p .m = omega arith in z))
 

@@ -9,7 +9,6 @@ use Rattle.answers.proofs.Absorbing.{Absorbing, absorbing-none}
 use Rattle.biscuit.specs.Signature.{repeated}
 use Rattle.biscuit.specs.Room.{rootsAt}
 use Rattle.biscuit.specs.Sign.{Signer}
-use Rattle.refusals.proofs.Refusals.{workLength-is}
 use Rattle.passes.specs.Passes.{HoldsRoots, Kept}
 use Rattle.passes.proofs.Committing.{kept-none, kept-more, roots-kept}
 use Rattle.replies.specs.Replies.{Challenged}
@@ -52,7 +51,7 @@ loop-again c =
     let i = l .inv in
     let t = c .before .before .before .before .loop-test .taken in
     let u = c .before .before .answer-turn in
-    let w = i .1 ∙ s .pre .5 ∙ workLength-is in (
+    let w = i .1 ∙ s .pre .5 in (
       omega arith,
       u .kept .1 .1 .1 .1 .1 .1 .0 ∙ i .1,
       kept-more _ _ _ _ (i .2) (u .ensures .1),

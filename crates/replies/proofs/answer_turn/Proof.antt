@@ -4,7 +4,6 @@ use native.Mathlib.Omega.{arith}
 use Prim.Native.Nat.{_+_, _-_, _*_}
 use lib.ListN.{replicate}
 use lib.Seq.{length-take-le}
-use Rattle.refusals.proofs.Refusals.{workLength-is}
 use Rattle.replies.proofs.Lending.{answered-planted, kept-planted}
 use borrow.Author.Needs.{needs}
 use Rattle.replies.proofs.answer_turn.Statement.{statement}
@@ -44,8 +43,8 @@ returns c =
     let s = c .before .before .before .before .before .before .before .before .before .before .before .before .before .before .before .before in
     let h = s .pre in
     let a = c .before .before .before .answer-leaves in (
-      answered-planted (s .args .p) (h .0) (s .args .salt .now) (s .args .work .now) (h .7 ∙ workLength-is) (s .args .e) (h .1) (h .2) _ _ _ _ _ (c .before .before .before .before .before .before .before .before .plant .ensures) (a .ensures .0),
-      kept-planted (s .args .p) (h .0) (s .args .salt .now) (s .args .work .now) (h .7 ∙ workLength-is) (s .args .e) (h .1) (h .2) _ _ (c .before .before .before .before .before .before .before .before .plant .ensures) (a .ensures .1),
+      answered-planted (s .args .p) (h .0) (s .args .salt .now) (s .args .work .now) (h .7) (s .args .e) (h .1) (h .2) _ _ _ _ _ (c .before .before .before .before .before .before .before .before .plant .ensures) (a .ensures .0),
+      kept-planted (s .args .p) (h .0) (s .args .salt .now) (s .args .work .now) (h .7) (s .args .e) (h .1) (h .2) _ _ (c .before .before .before .before .before .before .before .before .plant .ensures) (a .ensures .1),
     )
 
 pub answer-turn-spec : {M : Type 1} → statement M

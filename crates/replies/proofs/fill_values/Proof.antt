@@ -3,7 +3,8 @@ use mathlib.Core.Path.{refl}
 use Prim.Native.Nat.{_+_}
 use native.Mathlib.Omega.{arith}
 use Rattle.passes.proofs.Bounds.{corrections-end, packing-small}
-use Rattle.replies.proofs.Values.{part-size, filled-length, filled-values}
+use Rattle.biscuit.proofs.Parts.{length-lent, four-length}
+use Rattle.replies.proofs.Values.{filled-values}
 use borrow.Author.Needs.{needs}
 use Rattle.replies.proofs.fill_values.Statement.{statement}
 use Rattle.replies.proofs.fill_values.Tie as tie
@@ -36,7 +37,7 @@ part-read-elements-end : tie.Need-part-read-elements-end
 part-read-elements-end c = omega arith
 
 read-elements-requires : tie.Need-read-elements-requires
-read-elements-requires c κs = let h = c .before .before .before .before .before .pre in let r = corrections-end (c .before .before .before .before .before .args .p) (c .before .before .before .before .before .args .e) (h .1) (h .2) in let b = packing-small _ (h .0) in let l = part-size (c .before .before .before .before .before .args .values .now) 0 (c .before .before .before .before .before .args .p .n + c .before .before .before .before .before .args .p .m) (omega arith) (omega arith) in let v = h .0 .variables in let w = h .0 .equations in (omega arith, omega arith)
+read-elements-requires c κs = let h = c .before .before .before .before .before .pre in let r = corrections-end (c .before .before .before .before .before .args .p) (c .before .before .before .before .before .args .e) (h .1) (h .2) in let b = packing-small _ (h .0) in let l = length-lent (c .before .before .before .before .before .args .values .now) 0 (c .before .before .before .before .before .args .p .n + c .before .before .before .before .before .args .p .m) (omega arith) (omega arith) in let v = h .0 .variables in let w = h .0 .equations in (omega arith, omega arith)
 
 sub-unpack-into : tie.Need-sub-unpack-into
 sub-unpack-into c = omega arith
@@ -89,9 +90,10 @@ same-length c =
     let n = s .args .p .n in
     let m = s .args .p .m in
     let k = s .pre .5 in
-    filled-length (c .before .before .before .before .before .before .before .before .before .before .before .before .before .before .before .read-elements .last .1 .1 .0) (c .before .before .before .before .before .before .before .before .before .before .before .unpack-into .last .1 .0) (c .before .before .before .before .before .before .copy .last .1 .0) (c .before .before .clear .last .0) (s .args .values .now) _ _ _ _
-    (n + m) (n + m + m) (n + m + m + m) (n + m + m + m + m) (omega arith) (omega arith) (omega arith) (omega arith) refl refl refl refl
-    (c .before .before .before .before .before .before .before .before .before .before .before .before .before .before .before .read-elements .kept .1 .1 .0) (c .before .before .before .before .before .before .before .before .before .before .before .unpack-into .kept .1 .0) (c .before .before .before .before .before .before .copy .kept .1 .0) (c .before .before .clear .kept .0)
+    four-length (c .before .before .before .before .before .before .before .before .before .before .before .before .before .before .before .read-elements .last .1 .1 .0) (c .before .before .before .before .before .before .before .before .before .before .before .unpack-into .last .1 .0) (c .before .before .before .before .before .before .copy .last .1 .0) (s .args .values .now) _ _ _
+    (n + m) (n + m + m) (n + m + m + m) (n + m + m + m + m) (omega arith) (omega arith) (omega arith) (omega arith) refl refl refl
+    (c .before .before .before .before .before .before .before .before .before .before .before .before .before .before .before .read-elements .kept .1 .1 .0) (c .before .before .before .before .before .before .before .before .before .before .before .unpack-into .kept .1 .0) (c .before .before .before .before .before .before .copy .kept .1 .0)
+    (c .before .before .clear .last .0) _ refl (c .before .before .clear .kept .0)
 
 returns : tie.Need-returns
 returns c =

@@ -18,15 +18,15 @@ sub-a c = omega arith
 
 mul-a : tie.Need-mul-a
 unfolding packedLength
-mul-a c = let h = c .before .before .before .before .before .before .pre in let r = challenge-end (c .before .before .before .before .before .before .args .p) (c .before .before .before .before .before .before .args .e) _ _ (h .0) (h .1) (h .2) refl (c .before .layout-of .ensures .challenges) in omega arith
+mul-a c = let h = c .before .before .before .before .before .before .pre in let r = challenge-end (c .before .before .before .before .before .before .args .p) (c .before .before .before .before .before .before .args .e) _ _ (h .0) (h .1) (h .2) refl (c .before .layout-of .ensures .challenges) in let w = workLength-is in omega arith
 
 add-a : tie.Need-add-a
 unfolding packedLength
-add-a c = let h = c .before .before .before .before .before .before .before .pre in let r = challenge-end (c .before .before .before .before .before .before .before .args .p) (c .before .before .before .before .before .before .before .args .e) _ _ (h .0) (h .1) (h .2) refl (c .before .before .layout-of .ensures .challenges) in omega arith
+add-a c = let h = c .before .before .before .before .before .before .before .pre in let r = challenge-end (c .before .before .before .before .before .before .before .args .p) (c .before .before .before .before .before .before .before .args .e) _ _ (h .0) (h .1) (h .2) refl (c .before .before .layout-of .ensures .challenges) in let w = workLength-is in omega arith
 
 add-b : tie.Need-add-b
 unfolding packedLength
-add-b c = let h = c .before .before .before .before .before .before .before .pre in let r = challenge-end (c .before .before .before .before .before .before .before .args .p) (c .before .before .before .before .before .before .before .args .e) _ _ (h .0) (h .1) (h .2) refl (c .before .before .layout-of .ensures .challenges) in omega arith
+add-b c = let h = c .before .before .before .before .before .before .before .pre in let r = challenge-end (c .before .before .before .before .before .before .before .args .p) (c .before .before .before .before .before .before .before .args .e) _ _ (h .0) (h .1) (h .2) refl (c .before .before .layout-of .ensures .challenges) in let w = workLength-is in omega arith
 
 sub-fill-values : tie.Need-sub-fill-values
 sub-fill-values c = omega arith
@@ -36,7 +36,7 @@ part-fill-values-start c = omega arith
 
 part-fill-values-end : tie.Need-part-fill-values-end
 unfolding packedLength
-part-fill-values-end c = let h = c .before .before .before .before .before .before .before .pre in let r = challenge-end (c .before .before .before .before .before .before .before .args .p) (c .before .before .before .before .before .before .before .args .e) _ _ (h .0) (h .1) (h .2) refl (c .before .before .layout-of .ensures .challenges) in let w = workLength-is in let l = h .5 in omega arith
+part-fill-values-end c = let h = c .before .before .before .before .before .before .before .pre in let r = challenge-end (c .before .before .before .before .before .before .before .args .p) (c .before .before .before .before .before .before .before .args .e) _ _ (h .0) (h .1) (h .2) refl (c .before .before .layout-of .ensures .challenges) in let l = h .5 in omega arith
 
 fill-values-requires : tie.Need-fill-values-requires
 fill-values-requires c κs = let h = c .before .before .before .before .before .before .before .before .before .pre in (h .0, h .1, h .2, h .3, h .4, h .6)

@@ -1,8 +1,8 @@
 -- `signing::answer` meets its contract: the challenges are written behind the roots, and the pass keeps both. Assumes nothing.
 use native.Mathlib.Omega.{arith}
-use lib.ListN.{length}
 use borrow.Author.Needs.{needs}
-use Rattle.signing.proofs.Answering.{places, end-fits, challenges-size, answered}
+use Rattle.signing.proofs.Sizes.{challenges-within}
+use Rattle.signing.proofs.Answering.{challenged-work, answered}
 use Rattle.signing.proofs.answer.Statement.{statement}
 use Rattle.signing.proofs.answer.Tie as tie
 
@@ -13,30 +13,21 @@ sub-tape-bytes : tie.Need-sub-tape-bytes
 sub-tape-bytes c =
     let z = c .before .before .before .before .before .before .before in
     let m = c .layout-of .ensures in
-    let k = places (z .args .p) .end in
-    let b = end-fits (z .args .p) (z .pre .0) (length (z .args .work .now)) (z .pre .6) in
-    let at = m .challenges in
-    let to = m .end in
+    let w = challenges-within (z .args .p) (z .pre .0) _ _ _ (z .pre .6) (m .challenges) (m .end) in
     omega arith
 
 part-tape-bytes-start : tie.Need-part-tape-bytes-start
 part-tape-bytes-start c =
     let z = c .before .before .before .before .before .before .before in
     let m = c .layout-of .ensures in
-    let k = places (z .args .p) .end in
-    let b = end-fits (z .args .p) (z .pre .0) (length (z .args .work .now)) (z .pre .6) in
-    let at = m .challenges in
-    let to = m .end in
+    let w = challenges-within (z .args .p) (z .pre .0) _ _ _ (z .pre .6) (m .challenges) (m .end) in
     omega arith
 
 part-tape-bytes-end : tie.Need-part-tape-bytes-end
 part-tape-bytes-end c =
     let z = c .before .before .before .before .before .before .before in
     let m = c .layout-of .ensures in
-    let k = places (z .args .p) .end in
-    let b = end-fits (z .args .p) (z .pre .0) (length (z .args .work .now)) (z .pre .6) in
-    let at = m .challenges in
-    let to = m .end in
+    let w = challenges-within (z .args .p) (z .pre .0) _ _ _ (z .pre .6) (m .challenges) (m .end) in
     omega arith
 
 tape-bytes-requires : tie.Need-tape-bytes-requires
@@ -52,7 +43,7 @@ answer-pass-requires c κs =
     let z = c .before .before .before .before .before .before .before .before .before .before .before .before .before in
     let a = z .args in
     let pre = z .pre in
-    (pre .0, pre .3, pre .1, pre .2, pre .5, challenges-size (a .p) (pre .0) (a .work .now) (a .h1 .now) _ _ _ (m .challenges) (m .end) (pre .6) (t .ensures))
+    (pre .0, pre .3, pre .1, pre .2, pre .5, challenged-work (a .p) (pre .0) (a .work .now) (a .h1 .now) _ _ _ (m .challenges) (m .end) (pre .6) (t .ensures))
 
 finish-requires : tie.Need-finish-requires
 finish-requires c κs = search needs

@@ -1,11 +1,10 @@
 -- `signing::open_hidden` meets its contract: the leaves stand where the roots were, what is shown in its section, and the pass puts the hidden α behind the corrections. Assumes nothing.
 use mathlib.Core.Path.{refl}
 use native.Mathlib.Omega.{arith}
-use lib.ListN.{length}
 use borrow.Author.Needs.{needs}
-use Rattle.signing.proofs.Sizes.{seed-small, sections, head-at}
-use Rattle.signing.proofs.Answering.{places, end-fits}
-use Rattle.signing.proofs.Opening.{taken-size, section-size, packing-fits, work-fits, opened}
+use Rattle.signing.proofs.Sizes.{seed-small, sections, head-at, roots-within}
+use Rattle.signing.proofs.Rooted.{taken-size}
+use Rattle.signing.proofs.Opening.{shown-size, packing-sized, work-sized, opened}
 use Rattle.signing.proofs.open_hidden.Statement.{statement}
 use Rattle.signing.proofs.open_hidden.Tie as tie
 
@@ -34,36 +33,21 @@ sub-show-all : tie.Need-sub-show-all
 sub-show-all c =
     let z = c .before .before .before .before .before .before .before .before in
     let m = c .before .before .layout-of .ensures in
-    let k = places (z .args .p) in
-    let next = k .challenges in
-    let last = k .end in
-    let b = end-fits (z .args .p) (z .pre .0) (length (z .args .work .now)) (z .pre .6) in
-    let at = m .roots in
-    let to = m .challenges in
+    let w = roots-within (z .args .p) (z .pre .0) _ _ _ (z .pre .6) (m .roots) (m .challenges) in
     omega arith
 
 part-show-all-start : tie.Need-part-show-all-start
 part-show-all-start c =
     let z = c .before .before .before .before .before .before .before .before in
     let m = c .before .before .layout-of .ensures in
-    let k = places (z .args .p) in
-    let next = k .challenges in
-    let last = k .end in
-    let b = end-fits (z .args .p) (z .pre .0) (length (z .args .work .now)) (z .pre .6) in
-    let at = m .roots in
-    let to = m .challenges in
+    let w = roots-within (z .args .p) (z .pre .0) _ _ _ (z .pre .6) (m .roots) (m .challenges) in
     omega arith
 
 part-show-all-end : tie.Need-part-show-all-end
 part-show-all-end c =
     let z = c .before .before .before .before .before .before .before .before in
     let m = c .before .before .layout-of .ensures in
-    let k = places (z .args .p) in
-    let next = k .challenges in
-    let last = k .end in
-    let b = end-fits (z .args .p) (z .pre .0) (length (z .args .work .now)) (z .pre .6) in
-    let at = m .roots in
-    let to = m .challenges in
+    let w = roots-within (z .args .p) (z .pre .0) _ _ _ (z .pre .6) (m .roots) (m .challenges) in
     omega arith
 
 sub-show-all-2 : tie.Need-sub-show-all-2
@@ -116,7 +100,7 @@ show-all-requires c κs =
       omega arith,
       omega arith,
       taken-size p fits (z .args .work .now) (pre .6) _ _ (m .roots) (m .challenges),
-      section-size p (z .args .signature .now) _ _ (pre .5) (head-at p) b,
+      shown-size p (z .args .signature .now) _ _ (pre .5) (head-at p) b,
     )
 
 sub-alpha-pass : tie.Need-sub-alpha-pass
@@ -163,8 +147,8 @@ alpha-pass-requires c κs =
       pre .1,
       pre .2,
       omega arith,
-      packing-fits p (pre .0) x w salt secret hidden _ _ _ _ _ _ _ (pre .5) (pre .6) (head-at p) b refl (m .roots) (m .challenges) (sh .0) (sh .1),
-      work-fits p (pre .0) x w salt secret hidden _ _ _ _ _ _ _ (pre .5) (pre .6) (head-at p) b refl (m .roots) (m .challenges) (sh .0) (sh .1),
+      packing-sized p (pre .0) x w salt secret hidden _ _ _ _ _ _ _ (pre .5) (pre .6) (head-at p) b refl (m .roots) (m .challenges) (sh .0) (sh .1),
+      work-sized p (pre .0) x w salt secret hidden _ _ _ _ _ _ _ (pre .5) (pre .6) (head-at p) b refl (m .roots) (m .challenges) (sh .0) (sh .1),
     )
 
 same-length : tie.Need-same-length
@@ -175,20 +159,20 @@ same-length-2 c = search needs
 
 returns : tie.Need-returns
 returns c =
-    let z = c .before .before .before .before .before .before .before .before .before .before .before .before .before .before .before .before .before .before .before .before .before .before in
+    let z = c .before .before .before .before .before .before .before .before .before .before .before .before .before .before .before .before .before .before .before .before in
     let p = z .args .p in
     let pre = z .pre in
-    let b = c .before .before .before .before .before .before .before .before .before .before .before .before .before .before .packing-at .ensures in
-    let m = c .before .before .before .before .before .before .before .before .before .before .before .before .before .before .before .before .layout-of .ensures in
-    let sh = c .before .before .before .before .before .before .before .before .before .before .before .show-all .ensures in
+    let b = c .before .before .before .before .before .before .before .before .before .before .before .before .packing-at .ensures in
+    let m = c .before .before .before .before .before .before .before .before .before .before .before .before .before .before .layout-of .ensures in
+    let sh = c .before .before .before .before .before .before .before .before .before .show-all .ensures in
     let x = z .args .signature .now in
     let w = z .args .work .now in
     let salt = z .args .salt .now in
     let secret = z .args .secret .now in
     let hidden = z .args .hidden .now in
-    let al = c .before .before .before .before .alpha-pass in
+    let al = c .before .before .alpha-pass in
     opened p (pre .0) x w salt secret hidden _ _ _ _ _ _ _ (pre .5) (pre .6) (head-at p) b refl (m .roots) (m .challenges) (sh .0) (sh .1)
-    _ (al .kept .1 .1 .1 .1 .0) (al .ensures) (λ i. let byte = c .before .before .slice-known5 .given i in omega arith)
+    _ (al .kept .1 .1 .1 .1 .0) (al .ensures .0) (al .ensures .1) (λ i. let byte = c .slice-known5 .given i in omega arith)
 
 pub open-hidden-spec : {M : Type 1} → statement M
 open-hidden-spec =

@@ -2,7 +2,7 @@
 use mathlib.Core.Path.{_∙_}
 use native.Mathlib.Omega.{arith}
 use borrow.Author.Needs.{needs}
-use Rattle.signing.proofs.Closing.{head-fits, headed-size, closed}
+use Rattle.signing.proofs.Closing.{head-parts-fit, headed-size, closed}
 use Rattle.signing.proofs.open_with.Statement.{statement}
 use Rattle.signing.proofs.open_with.Tie as tie
 
@@ -18,7 +18,7 @@ write-head-requires c κs =
     let salt = pre .3 in
     let first = pre .4 in
     let second = pre .5 in
-    (omega arith, omega arith, omega arith, head-fits (a .p) (pre .0) (a .signature .now) (a .salt .now) (a .h1 .now) (a .h2 .now) (pre .7) salt first second)
+    (omega arith, omega arith, omega arith, head-parts-fit (a .p) (pre .0) (a .signature .now) (a .salt .now) (a .h1 .now) (a .h2 .now) (pre .7) salt first second)
 
 open-hidden-requires : tie.Need-open-hidden-requires
 open-hidden-requires c κs =

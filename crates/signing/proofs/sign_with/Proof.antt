@@ -1,8 +1,9 @@
 -- `signing::sign_with` meets its contract: a consistent key signs, any other leaves the output alone. Assumes nothing.
 use mathlib.Core.Path.{sym, _∙_}
 use native.Mathlib.Omega.{arith}
+use Rattle.biscuit.proofs.Parts.{length-first-back}
 use Rattle.keys.proofs.Made.{circuit-room}
-use Rattle.signing.proofs.Keyed.{keyed-secret, keyed-elements, keyed-circuit, wrote, left-alone, lent-long}
+use Rattle.signing.proofs.Keyed.{keyed-secret, keyed-elements, keyed-circuit, wrote, left-alone}
 use borrow.Author.Needs.{needs}
 use Rattle.signing.proofs.sign_with.Statement.{statement}
 use Rattle.signing.proofs.sign_with.Tie as tie
@@ -37,7 +38,7 @@ write-requires c κs =
       k .kept .1 .1 .0 ∙ pre .2,
       keyed-elements (s .args .p) (s .args .sk .now) (s .args .random .now) (s .args .message .now) _ (k .ensures .1),
       pre .3,
-      lent-long (s .args .work .now) (k .last .1 .1 .1 .0) (c .before .before .before .before .before .before .before .before .before .before .before .circuit-len .result) _ (omega arith) (k .kept .1 .1 .1 .0) (pre .4),
+      length-first-back (s .args .work .now) (k .last .1 .1 .1 .0) (c .before .before .before .before .before .before .before .before .before .before .before .circuit-len .result) (omega arith) (k .kept .1 .1 .1 .0) ∙ pre .4,
     )
 
 same-length : tie.Need-same-length

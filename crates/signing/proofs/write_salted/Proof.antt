@@ -1,11 +1,12 @@
 -- `signing::write_salted` meets its contract: with what is drawn the signer of algorithm 12 is held. Assumes nothing.
 use mathlib.Core.Path.{_∙_}
 use native.Mathlib.Omega.{arith}
-use lib.ListN.{length}
 use borrow.Author.Needs.{needs}
 use Rattle.biscuit.specs.Sign.{signerOf}
-use Rattle.signing.proofs.Answering.{places, end-fits}
-use Rattle.signing.proofs.Drawing.{roots-part, drawn-size, signer-drawn}
+use Rattle.signing.proofs.Sizes.{roots-within}
+use Rattle.signing.proofs.Keyed.{signature-signed}
+use Rattle.signing.proofs.Rooted.{taken-size, back-size}
+use Rattle.signing.proofs.Drawing.{signer-drawn}
 use Rattle.signing.proofs.write_salted.Statement.{statement}
 use Rattle.signing.proofs.write_salted.Tie as tie
 
@@ -16,36 +17,21 @@ sub-draw : tie.Need-sub-draw
 sub-draw c =
     let z = c .before .before .before .before .before .before .before .before .before in
     let m = c .before .layout-of .ensures in
-    let k = places (z .args .p) in
-    let next = k .challenges in
-    let last = k .end in
-    let b = end-fits (z .args .p) (z .pre .0) (length (z .args .work .now)) (z .pre .5) in
-    let at = m .roots in
-    let to = m .challenges in
+    let w = roots-within (z .args .p) (z .pre .0) _ _ _ (z .pre .5) (m .roots) (m .challenges) in
     omega arith
 
 part-draw-start : tie.Need-part-draw-start
 part-draw-start c =
     let z = c .before .before .before .before .before .before .before .before .before in
     let m = c .before .layout-of .ensures in
-    let k = places (z .args .p) in
-    let next = k .challenges in
-    let last = k .end in
-    let b = end-fits (z .args .p) (z .pre .0) (length (z .args .work .now)) (z .pre .5) in
-    let at = m .roots in
-    let to = m .challenges in
+    let w = roots-within (z .args .p) (z .pre .0) _ _ _ (z .pre .5) (m .roots) (m .challenges) in
     omega arith
 
 part-draw-end : tie.Need-part-draw-end
 part-draw-end c =
     let z = c .before .before .before .before .before .before .before .before .before in
     let m = c .before .layout-of .ensures in
-    let k = places (z .args .p) in
-    let next = k .challenges in
-    let last = k .end in
-    let b = end-fits (z .args .p) (z .pre .0) (length (z .args .work .now)) (z .pre .5) in
-    let at = m .roots in
-    let to = m .challenges in
+    let w = roots-within (z .args .p) (z .pre .0) _ _ _ (z .pre .5) (m .roots) (m .challenges) in
     omega arith
 
 draw-requires : tie.Need-draw-requires
@@ -54,7 +40,7 @@ draw-requires c κs =
     let m = c .before .before .layout-of .ensures in
     let a = z .args in
     let pre = z .pre in
-    (pre .3, roots-part (a .p) (pre .0) (a .sk .now) (a .random .now) (a .message .now) (a .work .now) (pre .5) _ _ (m .roots) (m .challenges))
+    (pre .3, taken-size (a .p) (pre .0) (a .work .now) (pre .5) _ _ (m .roots) (m .challenges))
 
 write-drawn-requires : tie.Need-write-drawn-requires
 write-drawn-requires c κs =
@@ -69,7 +55,7 @@ write-drawn-requires c κs =
       pre .2,
       k .0 ∙ pre .3,
       pre .4,
-      drawn-size (a .p) (pre .0) (a .sk .now) (a .random .now) (a .message .now) (a .work .now) (pre .5) _ _ (m .roots) (m .challenges) _ (d .ensures .1) (k .1 .0),
+      back-size (a .p) (pre .0) (a .work .now) (pre .5) _ _ (m .roots) (m .challenges) (d .last .1 .1 .1 .1 .1 .0) (k .1 .0 ∙ taken-size (a .p) (pre .0) (a .work .now) (pre .5) _ _ (m .roots) (m .challenges)),
     )
 
 same-length : tie.Need-same-length
@@ -94,6 +80,7 @@ returns c =
     w (signerOf (a .p) (a .sk .now) (a .random .now) (a .message .now))
     (signer-drawn (a .p) (pre .0) (a .sk .now) (a .random .now) (a .message .now) (a .work .now) (pre .5) _ _ (m .roots) (m .challenges) _ (d .ensures .1) (k .1 .0)
     _ (a .secret .now) (d .ensures .0) holds circuit)
+    ∙ signature-signed (a .p) (a .sk .now) (a .random .now) (a .message .now)
 
 pub write-salted-spec : {M : Type 1} → statement M
 write-salted-spec =

@@ -7,7 +7,8 @@ use lib.Pow.{pow-pos}
 use Rattle.sponge.specs.Steps.{absorbed}
 use Rattle.sets.specs.Sets.{S, N}
 use Rattle.biscuit.proofs.Sizes.{shown-small}
-use Rattle.verifying.proofs.Sizes.{ordered, head-fits, commitment-fits, salt-short, leaves-length}
+use Rattle.biscuit.proofs.Room.{mapped}
+use Rattle.verifying.proofs.Sizes.{head-fits, commitment-fits, salt-short, leaves-length}
 use Rattle.verifying.proofs.Turning.{commitments-as}
 use borrow.Author.Needs.{needs}
 use Rattle.verifying.proofs.absorb_commitments.Statement.{statement}
@@ -74,21 +75,21 @@ part-commit-all-end c = let s = c .before .before .before .before .before .befor
 sub-commit-all-2 : tie.Need-sub-commit-all-2
 sub-commit-all-2 c =
     let s = c .before .before .before .before .before .before .before .before in
-    let o = ordered (s .args .p) in
+    let m = mapped (s .args .p) in
     let l = c .before .layout-of .ensures in
     omega arith
 
 part-commit-all-start-2 : tie.Need-part-commit-all-start-2
 part-commit-all-start-2 c =
     let s = c .before .before .before .before .before .before .before .before in
-    let o = ordered (s .args .p) in
+    let m = mapped (s .args .p) in
     let l = c .before .layout-of .ensures in
     omega arith
 
 part-commit-all-end-2 : tie.Need-part-commit-all-end-2
 part-commit-all-end-2 c =
     let s = c .before .before .before .before .before .before .before .before in
-    let o = ordered (s .args .p) in
+    let m = mapped (s .args .p) in
     let l = c .before .layout-of .ensures in
     omega arith
 

@@ -8,9 +8,9 @@ use lib.ListN.{take}
 use Rattle.memory.proofs.Xors.{part-sized}
 use Rattle.field.specs.Packing.{pack}
 use Rattle.sponge.specs.Steps.{absorbed}
-use Rattle.verifying.specs.Turns.{leavesOf}
+use Rattle.verifying.specs.Turns.{leavesPart}
 use Rattle.verifying.proofs.Reading.{values-cut}
-use Rattle.verifying.proofs.Turning.{first-absorbed}
+use Rattle.verifying.proofs.Turning.{first-turned}
 use borrow.Author.Needs.{needs}
 use Rattle.verifying.proofs.absorb_first.Statement.{statement}
 use Rattle.verifying.proofs.absorb_first.Tie as tie
@@ -52,7 +52,7 @@ returns c =
     let parts = values-cut p key x (s .args .e) (s .pre .1) (s .pre .2) y (s .pre .4) v in
     let ds = ap (λ (n : ℕ). take n y) (sub-zero (p .n)) ∙ parts .first in
     let dc = part-sized y (p .n) (p .m) ∙ parts .second in
-    first-absorbed p (s .pre .0) key x (s .pre .3) (s .args .e) (s .pre .1) (s .pre .2) (s .args .party) (leavesOf p (s .args .work .now)) (s .args .hash) (c .before .before .before .before .absorb-commitments .result) _ is l
+    first-turned p (s .pre .0) key x (s .pre .3) (s .args .e) (s .pre .1) (s .pre .2) (s .args .party) (leavesPart p (s .args .work .now)) (s .args .hash) (c .before .before .before .before .absorb-commitments .result) _ is l
     (c .before .before .before .before .absorb-commitments .ensures)
     (c .absorb-corrections .ensures ∙ ap₂ (λ (a b : List ℕ). absorbed (c .before .before .before .before .absorb-commitments .result) (pack a ++ pack b)) ds dc)
 

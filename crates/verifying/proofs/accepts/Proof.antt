@@ -1,7 +1,7 @@
 -- `verifying::accepts` meets its contract: the hidden parties have room in the array, and work is long enough.
 -- Assumes nothing.
 use Rattle.answers.proofs.Turning.{zeros-sized}
-use Rattle.verifying.proofs.Sizes.{work-enough}
+use native.Mathlib.Omega.{arith}
 use borrow.Author.Needs.{needs}
 use Rattle.verifying.proofs.accepts.Statement.{statement}
 use Rattle.verifying.proofs.accepts.Tie as tie
@@ -18,7 +18,7 @@ part-parties-end c = search needs
 accepts-in-requires : tie.Need-accepts-in-requires
 accepts-in-requires c κs =
     let s = c .before .before .before .before .before .before in
-    (s .pre .0, s .pre .1, s .pre .2, zeros-sized 73 (s .args .p .tau) (s .pre .0 .repetitions), work-enough (s .args .p) (s .pre .0) _ (s .pre .3))
+    (s .pre .0, s .pre .1, s .pre .2, zeros-sized 73 (s .args .p .tau) (s .pre .0 .repetitions), (let enough = s .pre .0 .enough in let w = s .pre .3 in omega arith))
 
 same-length : tie.Need-same-length
 same-length c = search needs

@@ -4,7 +4,8 @@ use mathlib.Core.Path.{refl, _∙_}
 use Prim.Native.Nat.{_/_}
 use native.Mathlib.Omega.{arith}
 use Rattle.sets.specs.Sets.{S}
-use Rattle.verifying.proofs.Sizes.{ordered, head-fits, seed-fits}
+use Rattle.biscuit.proofs.Room.{mapped}
+use Rattle.verifying.proofs.Sizes.{head-fits, seed-fits}
 use Rattle.verifying.proofs.Expanding.{first-length, second-length, circuit-there, challenges-there, holds-circuit, holds-challenge, holds-hidden}
 use borrow.Author.Needs.{needs}
 use Rattle.verifying.proofs.expand.Statement.{statement}
@@ -40,7 +41,7 @@ part-tape-bytes-start-2 c = search needs
 
 part-tape-bytes-end-2 : tie.Need-part-tape-bytes-end-2
 part-tape-bytes-end-2 c =
-    let s = c .before .before .before .before .before .before .before in let o = ordered (s .args .p) in let l = c .before .layout-of .ensures in omega arith
+    let s = c .before .before .before .before .before .before .before in let m = mapped (s .args .p) in let l = c .before .layout-of .ensures in omega arith
 
 tape-bytes-requires : tie.Need-tape-bytes-requires
 tape-bytes-requires c κs = search needs
@@ -58,11 +59,11 @@ part-tape-bytes-end-3 c =
 
 sub-tape-bytes-4 : tie.Need-sub-tape-bytes-4
 sub-tape-bytes-4 c =
-    let s = c .before .before .before .before .before .before .before .before .before .before .before .before in let o = ordered (s .args .p) in let l = c .before .before .before .before .before .before .layout-of .ensures in omega arith
+    let s = c .before .before .before .before .before .before .before .before .before .before .before .before in let m = mapped (s .args .p) in let l = c .before .before .before .before .before .before .layout-of .ensures in omega arith
 
 part-tape-bytes-start-4 : tie.Need-part-tape-bytes-start-4
 part-tape-bytes-start-4 c =
-    let s = c .before .before .before .before .before .before .before .before .before .before .before .before in let o = ordered (s .args .p) in let l = c .before .before .before .before .before .before .layout-of .ensures in omega arith
+    let s = c .before .before .before .before .before .before .before .before .before .before .before .before in let m = mapped (s .args .p) in let l = c .before .before .before .before .before .before .layout-of .ensures in omega arith
 
 part-tape-bytes-end-4 : tie.Need-part-tape-bytes-end-4
 part-tape-bytes-end-4 c = search needs

@@ -5,7 +5,8 @@ use Prim.Native.Nat.{ℕ, _+_}
 use native.Mathlib.Omega.{arith}
 use lib.ListN.{drop}
 use Rattle.vectors.specs.Elements.{elementsAt}
-use Rattle.verifying.proofs.Sizes.{packing-fits, turn-small, corrections-small, alphas-small}
+use Rattle.biscuit.proofs.Repeated.{among}
+use Rattle.verifying.proofs.Sizes.{packing-fits, corrections-small, alphas-small}
 use Rattle.verifying.proofs.Reading.{alpha-read, lent-rest}
 use borrow.Author.Needs.{needs}
 use Rattle.verifying.proofs.read_alpha.Statement.{statement}
@@ -23,8 +24,8 @@ mul-at c =
     let p = s .args .p in
     let a = corrections-small p (s .pre .0) in
     let b = alphas-small p (s .pre .0) in
-    let d = turn-small p (s .pre .0) (s .args .e) (s .pre .1) (s .pre .2) (p .n + p .m) in
-    let g = turn-small p (s .pre .0) (s .args .e) (s .pre .1) (s .pre .2) (p .m) in
+    let d = among (s .args .e) (p .tau) (p .n + p .m) (s .pre .1) (s .pre .2) in
+    let g = among (s .args .e) (p .tau) (p .m) (s .pre .1) (s .pre .2) in
     let n = s .pre .0 .variables in
     let m = s .pre .0 .equations in
     omega arith
@@ -38,8 +39,8 @@ mul-at-2 c =
     let p = s .args .p in
     let a = corrections-small p (s .pre .0) in
     let b = alphas-small p (s .pre .0) in
-    let d = turn-small p (s .pre .0) (s .args .e) (s .pre .1) (s .pre .2) (p .n + p .m) in
-    let g = turn-small p (s .pre .0) (s .args .e) (s .pre .1) (s .pre .2) (p .m) in
+    let d = among (s .args .e) (p .tau) (p .n + p .m) (s .pre .1) (s .pre .2) in
+    let g = among (s .args .e) (p .tau) (p .m) (s .pre .1) (s .pre .2) in
     let n = s .pre .0 .variables in
     let m = s .pre .0 .equations in
     omega arith
@@ -50,8 +51,8 @@ add-at-2 c =
     let p = s .args .p in
     let a = corrections-small p (s .pre .0) in
     let b = alphas-small p (s .pre .0) in
-    let d = turn-small p (s .pre .0) (s .args .e) (s .pre .1) (s .pre .2) (p .n + p .m) in
-    let g = turn-small p (s .pre .0) (s .args .e) (s .pre .1) (s .pre .2) (p .m) in
+    let d = among (s .args .e) (p .tau) (p .n + p .m) (s .pre .1) (s .pre .2) in
+    let g = among (s .args .e) (p .tau) (p .m) (s .pre .1) (s .pre .2) in
     let n = s .pre .0 .variables in
     let m = s .pre .0 .equations in
     omega arith
@@ -79,8 +80,8 @@ read-elements-requires c κs =
     let p = s .args .p in
     let a = corrections-small p (s .pre .0) in
     let b = alphas-small p (s .pre .0) in
-    let d = turn-small p (s .pre .0) (s .args .e) (s .pre .1) (s .pre .2) (p .n + p .m) in
-    let g = turn-small p (s .pre .0) (s .args .e) (s .pre .1) (s .pre .2) (p .m) in
+    let d = among (s .args .e) (p .tau) (p .n + p .m) (s .pre .1) (s .pre .2) in
+    let g = among (s .args .e) (p .tau) (p .m) (s .pre .1) (s .pre .2) in
     let n = s .pre .0 .variables in
     let m = s .pre .0 .equations in
     (omega arith, omega arith)

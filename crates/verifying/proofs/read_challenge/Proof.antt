@@ -8,7 +8,9 @@ use lib.ListN.{take, drop}
 use Rattle.field.specs.Packing.{packedLength}
 use Rattle.forms.specs.Room.{challengeIn}
 use Rattle.vectors.specs.Elements.{elementsAt}
-use Rattle.verifying.proofs.Sizes.{ordered, turn-small, challenges-small}
+use Rattle.biscuit.proofs.Repeated.{among}
+use Rattle.biscuit.proofs.Room.{mapped}
+use Rattle.verifying.proofs.Sizes.{challenges-small}
 use Rattle.verifying.proofs.Reading.{challenge-read}
 use borrow.Author.Needs.{needs}
 use Rattle.verifying.proofs.read_challenge.Statement.{statement}
@@ -20,14 +22,14 @@ layout-of-requires c κs = search needs
 sub-read-elements : tie.Need-sub-read-elements
 sub-read-elements c =
     let s = c .before .before .before in
-    let o = ordered (s .args .p) in
+    let m = mapped (s .args .p) in
     let l = c .layout-of .ensures in
     omega arith
 
 part-read-elements-start : tie.Need-part-read-elements-start
 part-read-elements-start c =
     let s = c .before .before .before in
-    let o = ordered (s .args .p) in
+    let m = mapped (s .args .p) in
     let l = c .layout-of .ensures in
     omega arith
 
@@ -46,7 +48,7 @@ mul-read-elements c =
     let s = c .before .before .before .before .before in
     let p = s .args .p in
     let a = challenges-small p (s .pre .0) in
-    let d = turn-small p (s .pre .0) (s .args .e) (s .pre .1) (s .pre .2) ((p .m + 1) / 2) in
+    let d = among (s .args .e) (p .tau) ((p .m + 1) / 2) (s .pre .1) (s .pre .2) in
     let m = s .pre .0 .equations in
     omega arith
 
@@ -56,7 +58,7 @@ mul-read-elements-2 c =
     let s = c .before .before .before .before .before in
     let p = s .args .p in
     let a = challenges-small p (s .pre .0) in
-    let d = turn-small p (s .pre .0) (s .args .e) (s .pre .1) (s .pre .2) ((p .m + 1) / 2) in
+    let d = among (s .args .e) (p .tau) ((p .m + 1) / 2) (s .pre .1) (s .pre .2) in
     let m = s .pre .0 .equations in
     omega arith
 
@@ -66,7 +68,7 @@ read-elements-requires c κs =
     let s = c .before .before .before .before .before .before in
     let p = s .args .p in
     let a = challenges-small p (s .pre .0) in
-    let d = turn-small p (s .pre .0) (s .args .e) (s .pre .1) (s .pre .2) ((p .m + 1) / 2) in
+    let d = among (s .args .e) (p .tau) ((p .m + 1) / 2) (s .pre .1) (s .pre .2) in
     let m = s .pre .0 .equations in
     (omega arith, omega arith)
 

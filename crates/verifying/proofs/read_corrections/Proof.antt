@@ -5,7 +5,8 @@ use Prim.Native.Nat.{ℕ, _+_}
 use native.Mathlib.Omega.{arith}
 use lib.ListN.{drop}
 use Rattle.vectors.specs.Elements.{elementsAt}
-use Rattle.verifying.proofs.Sizes.{packing-fits, turn-small, corrections-small, alphas-small}
+use Rattle.biscuit.proofs.Repeated.{among}
+use Rattle.verifying.proofs.Sizes.{packing-fits, corrections-small, alphas-small}
 use Rattle.verifying.proofs.Reading.{corrections-read, lent-rest}
 use borrow.Author.Needs.{needs}
 use Rattle.verifying.proofs.read_corrections.Statement.{statement}
@@ -43,8 +44,8 @@ mul-read-elements c =
     let p = s .args .p in
     let a = corrections-small p (s .pre .0) in
     let b = alphas-small p (s .pre .0) in
-    let d = turn-small p (s .pre .0) (s .args .e) (s .pre .1) (s .pre .2) (p .n + p .m) in
-    let g = turn-small p (s .pre .0) (s .args .e) (s .pre .1) (s .pre .2) (p .m) in
+    let d = among (s .args .e) (p .tau) (p .n + p .m) (s .pre .1) (s .pre .2) in
+    let g = among (s .args .e) (p .tau) (p .m) (s .pre .1) (s .pre .2) in
     let n = s .pre .0 .variables in
     let m = s .pre .0 .equations in
     omega arith
@@ -55,8 +56,8 @@ read-elements-requires c κs =
     let p = s .args .p in
     let a = corrections-small p (s .pre .0) in
     let b = alphas-small p (s .pre .0) in
-    let d = turn-small p (s .pre .0) (s .args .e) (s .pre .1) (s .pre .2) (p .n + p .m) in
-    let g = turn-small p (s .pre .0) (s .args .e) (s .pre .1) (s .pre .2) (p .m) in
+    let d = among (s .args .e) (p .tau) (p .n + p .m) (s .pre .1) (s .pre .2) in
+    let g = among (s .args .e) (p .tau) (p .m) (s .pre .1) (s .pre .2) in
     let n = s .pre .0 .variables in
     let m = s .pre .0 .equations in
     (omega arith, omega arith)

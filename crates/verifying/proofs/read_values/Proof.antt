@@ -1,6 +1,6 @@
 -- `verifying::read_values` meets its contract: four parts are read one after another, and together they fill the values.
 -- Assumes nothing.
-use Rattle.verifying.specs.Turns.{challengesOf}
+use Rattle.verifying.specs.Turns.{challengesPart}
 use Rattle.verifying.proofs.Reading.{last-room, values-laid}
 use borrow.Author.Needs.{needs}
 use Rattle.verifying.proofs.read_values.Statement.{statement}
@@ -81,7 +81,7 @@ same-length c = search needs
 returns : tie.Need-returns
 returns c =
     let s = c .before .before .before .before .before .before .before .before .before .before .before .before .before .before .before .before .before .before .before .before .before .before .before .before in
-    values-laid (s .args .p) (s .args .pk .now) (s .args .signature .now) (challengesOf (s .args .p) (s .args .work .now)) (s .args .e) (s .pre .1) (s .pre .2) (s .args .values .now)
+    values-laid (s .args .p) (s .args .pk .now) (s .args .signature .now) (challengesPart (s .args .p) (s .args .work .now)) (s .args .e) (s .pre .1) (s .pre .2) (s .args .values .now)
     (c .before .before .before .before .before .before .before .before .before .before .before .before .before .before .read-corrections .last .1 .1 .1 .0) (c .before .before .before .before .before .before .before .before .before .before .read-challenge .last .1 .1 .1 .0) (c .before .before .before .before .before .before .read-target .last .1 .1 .0) (c .before .before .read-alpha .last .1 .1 .1 .0) (s .pre .5)
     (c .before .before .before .before .before .before .before .before .before .before .before .before .before .before .read-corrections .ensures) (c .before .before .before .before .before .before .before .before .before .before .read-challenge .ensures) (c .before .before .before .before .before .before .read-target .ensures) (c .before .before .read-alpha .ensures)
 

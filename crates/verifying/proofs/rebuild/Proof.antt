@@ -5,7 +5,8 @@ use Prim.Native.Nat.{_/_}
 use native.Mathlib.Omega.{arith}
 use Rattle.sets.specs.Sets.{S, N}
 use Rattle.biscuit.proofs.Sizes.{shown-small}
-use Rattle.verifying.proofs.Sizes.{ordered, head-fits, path-fits, salt-short, path-length, leaves-length}
+use Rattle.biscuit.proofs.Room.{mapped}
+use Rattle.verifying.proofs.Sizes.{head-fits, path-fits, salt-short, path-length, leaves-length}
 use Rattle.verifying.proofs.Turning.{rebuilt-work}
 use borrow.Author.Needs.{needs}
 use Rattle.verifying.proofs.rebuild.Statement.{statement}
@@ -68,21 +69,21 @@ part-rebuild-end-2 c =
 sub-rebuild-3 : tie.Need-sub-rebuild-3
 sub-rebuild-3 c =
     let s = c .before .before .before .before .before .before .before in
-    let o = ordered (s .args .p) in
+    let m = mapped (s .args .p) in
     let l = c .before .before .layout-of .ensures in
     omega arith
 
 part-rebuild-start-3 : tie.Need-part-rebuild-start-3
 part-rebuild-start-3 c =
     let s = c .before .before .before .before .before .before .before in
-    let o = ordered (s .args .p) in
+    let m = mapped (s .args .p) in
     let l = c .before .before .layout-of .ensures in
     omega arith
 
 part-rebuild-end-3 : tie.Need-part-rebuild-end-3
 part-rebuild-end-3 c =
     let s = c .before .before .before .before .before .before .before in
-    let o = ordered (s .args .p) in
+    let m = mapped (s .args .p) in
     let l = c .before .before .layout-of .ensures in
     omega arith
 

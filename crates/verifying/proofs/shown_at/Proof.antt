@@ -5,7 +5,7 @@ use native.Mathlib.Omega.{arith}
 use Rattle.sets.specs.Sets.{S}
 use Rattle.biscuit.specs.Signature.{headLength, shownLength, shownAt}
 use Rattle.biscuit.proofs.Sizes.{shown-small, all-shown-small}
-use Rattle.verifying.proofs.Sizes.{turn-small}
+use Rattle.biscuit.proofs.Repeated.{among}
 use borrow.Author.Needs.{needs}
 use Rattle.verifying.proofs.shown_at.Statement.{statement}
 use Rattle.verifying.proofs.shown_at.Tie as tie
@@ -19,7 +19,7 @@ sub-result c = search needs
 mul-result-2 : tie.Need-mul-result-2
 unfolding S
 mul-result-2 c =
-    let s = c .before .before in let a = shown-small (s .args .p) (s .pre .0) in let b = all-shown-small (s .args .p) (s .pre .0) in let t = turn-small (s .args .p) (s .pre .0) (s .args .e) (s .pre .1) (s .pre .2) (s .args .p .l * (s .args .p .bits / 8) + 2 * (s .args .p .bits / 8)) in let z = s .pre .0 .seed in omega arith
+    let s = c .before .before in let a = shown-small (s .args .p) (s .pre .0) in let b = all-shown-small (s .args .p) (s .pre .0) in let t = among (s .args .e) (s .args .p .tau) (s .args .p .l * (s .args .p .bits / 8) + 2 * (s .args .p .bits / 8)) (s .pre .1) (s .pre .2) in let z = s .pre .0 .seed in omega arith
 
 mul-result-3 : tie.Need-mul-result-3
 mul-result-3 c = search needs
@@ -27,17 +27,17 @@ mul-result-3 c = search needs
 add-result : tie.Need-add-result
 unfolding S
 add-result c =
-    let s = c .before .before in let a = shown-small (s .args .p) (s .pre .0) in let b = all-shown-small (s .args .p) (s .pre .0) in let t = turn-small (s .args .p) (s .pre .0) (s .args .e) (s .pre .1) (s .pre .2) (s .args .p .l * (s .args .p .bits / 8) + 2 * (s .args .p .bits / 8)) in let z = s .pre .0 .seed in omega arith
+    let s = c .before .before in let a = shown-small (s .args .p) (s .pre .0) in let b = all-shown-small (s .args .p) (s .pre .0) in let t = among (s .args .e) (s .args .p .tau) (s .args .p .l * (s .args .p .bits / 8) + 2 * (s .args .p .bits / 8)) (s .pre .1) (s .pre .2) in let z = s .pre .0 .seed in omega arith
 
 mul-result-4 : tie.Need-mul-result-4
 unfolding S
 mul-result-4 c =
-    let s = c .before .before in let a = shown-small (s .args .p) (s .pre .0) in let b = all-shown-small (s .args .p) (s .pre .0) in let t = turn-small (s .args .p) (s .pre .0) (s .args .e) (s .pre .1) (s .pre .2) (s .args .p .l * (s .args .p .bits / 8) + 2 * (s .args .p .bits / 8)) in let z = s .pre .0 .seed in omega arith
+    let s = c .before .before in let a = shown-small (s .args .p) (s .pre .0) in let b = all-shown-small (s .args .p) (s .pre .0) in let t = among (s .args .e) (s .args .p .tau) (s .args .p .l * (s .args .p .bits / 8) + 2 * (s .args .p .bits / 8)) (s .pre .1) (s .pre .2) in let z = s .pre .0 .seed in omega arith
 
 add-result-2 : tie.Need-add-result-2
 unfolding S
 add-result-2 c =
-    let s = c .before .before in let a = shown-small (s .args .p) (s .pre .0) in let b = all-shown-small (s .args .p) (s .pre .0) in let t = turn-small (s .args .p) (s .pre .0) (s .args .e) (s .pre .1) (s .pre .2) (s .args .p .l * (s .args .p .bits / 8) + 2 * (s .args .p .bits / 8)) in let z = s .pre .0 .seed in omega arith
+    let s = c .before .before in let a = shown-small (s .args .p) (s .pre .0) in let b = all-shown-small (s .args .p) (s .pre .0) in let t = among (s .args .e) (s .args .p .tau) (s .args .p .l * (s .args .p .bits / 8) + 2 * (s .args .p .bits / 8)) (s .pre .1) (s .pre .2) in let z = s .pre .0 .seed in omega arith
 
 returns : tie.Need-returns
 unfolding S shownAt headLength shownLength

@@ -9,10 +9,10 @@ use Rattle.biscuit.specs.Verify.{f}
 use Rattle.biscuit.specs.Room.{roomEnd}
 use Rattle.biscuit.specs.Keys.{publicKeyOf}
 use Rattle.biscuit.specs.Signature.{extracted}
-use Rattle.verifying.specs.Turns.{challengesOf}
-use Rattle.verifying.proofs.Sizes.{hidden-from-one, hidden-within}
-use Rattle.verifying.proofs.Reading.{values-elements, values-are}
-use Rattle.verifying.proofs.Turning.{length-of-leaves, behind-roots, still-expanded, put-circuit, put-leaves, put-challenges}
+use Rattle.verifying.specs.Turns.{challengesPart}
+use Rattle.biscuit.proofs.Room.{behind-roots, hidden-from-one, hidden-within}
+use Rattle.verifying.proofs.Reading.{read-elements-small, values-are}
+use Rattle.verifying.proofs.Turning.{length-of-leaves, still-expanded, put-circuit, put-leaves, put-challenges}
 use borrow.Author.Needs.{needs}
 use Rattle.verifying.proofs.turn_in.Statement.{statement}
 use Rattle.verifying.proofs.turn_in.Tie as tie
@@ -39,7 +39,7 @@ absorb-requires c κs =
     let p = s .args .p in
     let v = c .before .before .before .before .before .before .before .before .read-values in
     let w = c .before .before .before .before .rebuild in
-    (s .pre .0, s .pre .1, s .pre .2, s .pre .4, v .kept .1 .1 .1 .1 .1 .0 ∙ s .pre .6, values-elements p (s .args .pk .now) (s .args .signature .now) (challengesOf p (s .args .work .now)) (s .args .e) _ (v .ensures), subst (λ (n : ℕ). roomEnd p ≤ n) (sym (w .kept .1 .1 .1 .1 .0)) (s .pre .7))
+    (s .pre .0, s .pre .1, s .pre .2, s .pre .4, v .kept .1 .1 .1 .1 .1 .0 ∙ s .pre .6, read-elements-small p (s .args .pk .now) (s .args .signature .now) (challengesPart p (s .args .work .now)) (s .args .e) _ (v .ensures), subst (λ (n : ℕ). roomEnd p ≤ n) (sym (w .kept .1 .1 .1 .1 .0)) (s .pre .7))
 
 same-length : tie.Need-same-length
 same-length c = search needs
@@ -55,7 +55,7 @@ returns c =
     let key = publicKeyOf p (s .args .pk .now) in
     let all = s .pre .8 in
     let is = c .before .before .before .before .before .before .before .before .before .before .before .before .before .before .hidden-party .ensures ∙ all .hidden (s .args .e) (s .pre .1) (s .pre .2) in
-    let v = values-are p (s .args .pk .now) x (challengesOf p (s .args .work .now)) (s .args .e) _ (c .before .before .before .before .before .before .before .before .before .before .before .read-values .ensures) (all .challenge (s .args .e) (s .pre .1) (s .pre .2)) in
+    let v = values-are p (s .args .pk .now) x (challengesPart p (s .args .work .now)) (s .args .e) _ (c .before .before .before .before .before .before .before .before .before .before .before .read-values .ensures) (all .challenge (s .args .e) (s .pre .1) (s .pre .2)) in
     let w = c .before .before .before .before .before .before .before .rebuild .ensures key is in
     let z = length-of-leaves p (s .pre .0) key x (s .pre .4) (s .args .e) (s .pre .1) (s .pre .2) in
     let end = c .before .before .absorb .ensures in

@@ -1,0 +1,31 @@
+//! A safe crate over the static library of the proved signing desk: Biscuit signatures and the clip envelope.
+//!
+//! A [`Set`] names the parameters. [`SecretKey`], [`PublicKey`] and [`Signature`] know their set and always have its length, so a call can be refused for
+//! what its bytes hold, and hardly for a length. A [`Desk`] owns the work buffer and makes the calls. A [`Refusal`] has the desk's number and words.
+//!
+//! ```
+//! use biscuit::{Desk, Refusal, Set};
+//!
+//! let set = Set::Biscuit128s;
+//! let mut desk = Desk::new();
+//! let (secret, _public) = desk.make_keys(set, &[1; 16], &[2; 16])?;
+//! let envelope = desk.sign_envelope(&secret, b"Good evening.", None)?;
+//! assert_eq!(desk.check(&envelope)?.message(), b"Good evening.");
+//! # Ok::<(), Refusal>(())
+//! ```
+//!
+//! What is proved is the library's calls, which [`raw`] shows as they are; this crate is ordinary Rust over them. No random number is drawn: seeds and random
+//! bytes come from the caller.
+
+mod desk;
+mod envelope;
+mod keys;
+pub mod raw;
+mod refusal;
+mod set;
+
+pub use desk::Desk;
+pub use envelope::Envelope;
+pub use keys::{clear, PublicKey, SecretKey, Signature};
+pub use refusal::Refusal;
+pub use set::{Set, MESSAGE_LIMIT};

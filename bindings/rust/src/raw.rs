@@ -1,0 +1,135 @@
+//! The exported calls as they are: a set's number, slices, and the answer's number. Every number and every length is allowed;
+//! include/biscuit.h has the promise of each call. The rest of the crate is made of these.
+
+extern "C" {
+    fn biscuit_make_keys(
+        set: usize,
+        circuit_seed: *const u8, circuit_seed_len: usize,
+        secret_seed: *const u8, secret_seed_len: usize,
+        secret_key: *mut u8, secret_key_len: usize,
+        public_key: *mut u8, public_key_len: usize,
+        work: *mut u8, work_len: usize,
+    ) -> u8;
+    fn biscuit_public_half(
+        set: usize,
+        secret_key: *const u8, secret_key_len: usize,
+        public_key: *mut u8, public_key_len: usize,
+        work: *mut u8, work_len: usize,
+    ) -> u8;
+    fn biscuit_sign(
+        set: usize,
+        secret_key: *const u8, secret_key_len: usize,
+        message: *const u8, message_len: usize,
+        random: *const u8, random_len: usize,
+        signature: *mut u8, signature_len: usize,
+        work: *mut u8, work_len: usize,
+    ) -> u8;
+    fn biscuit_verify(
+        set: usize,
+        public_key: *const u8, public_key_len: usize,
+        message: *const u8, message_len: usize,
+        signature: *const u8, signature_len: usize,
+        work: *mut u8, work_len: usize,
+    ) -> u8;
+    fn envelope_write(
+        set: usize,
+        public_key: *const u8, public_key_len: usize,
+        signature: *const u8, signature_len: usize,
+        message: *const u8, message_len: usize,
+        envelope: *mut u8, envelope_len: usize,
+    ) -> u8;
+    fn envelope_read(envelope: *const u8, envelope_len: usize) -> u8;
+    fn envelope_header(envelope: *const u8, envelope_len: usize) -> Header;
+    fn envelope_places(envelope: *const u8, envelope_len: usize) -> Places;
+}
+
+/// The header of an envelope; all 0 on refusal.
+#[repr(C)]
+pub struct Header {
+    pub version: usize,
+    pub set: usize,
+    pub length: usize,
+}
+
+/// Where the parts of an envelope begin, and where the last ends; all 0 on refusal.
+#[repr(C)]
+pub struct Places {
+    pub key: usize,
+    pub signature: usize,
+    pub message: usize,
+    pub end: usize,
+}
+
+/// Makes a key pair from two seeds.
+pub fn make_keys(set: usize, circuit_seed: &[u8], secret_seed: &[u8], secret_key: &mut [u8], public_key: &mut [u8], work: &mut [u8]) -> u8 {
+    unsafe {
+        biscuit_make_keys(
+            set,
+            circuit_seed.as_ptr(), circuit_seed.len(),
+            secret_seed.as_ptr(), secret_seed.len(),
+            secret_key.as_mut_ptr(), secret_key.len(),
+            public_key.as_mut_ptr(), public_key.len(),
+            work.as_mut_ptr(), work.len(),
+        )
+    }
+}
+
+/// Gives the public half of a secret key.
+pub fn public_half(set: usize, secret_key: &[u8], public_key: &mut [u8], work: &mut [u8]) -> u8 {
+    unsafe {
+        biscuit_public_half(
+            set,
+            secret_key.as_ptr(), secret_key.len(),
+            public_key.as_mut_ptr(), public_key.len(),
+            work.as_mut_ptr(), work.len(),
+        )
+    }
+}
+
+/// Signs a message.
+pub fn sign(set: usize, secret_key: &[u8], message: &[u8], random: &[u8], signature: &mut [u8], work: &mut [u8]) -> u8 {
+    unsafe {
+        biscuit_sign(
+            set,
+            secret_key.as_ptr(), secret_key.len(),
+            message.as_ptr(), message.len(),
+            random.as_ptr(), random.len(),
+            signature.as_mut_ptr(), signature.len(),
+            work.as_mut_ptr(), work.len(),
+        )
+    }
+}
+
+/// Verifies a signature.
+pub fn verify(set: usize, public_key: &[u8], message: &[u8], signature: &[u8], work: &mut [u8]) -> u8 {
+    unsafe {
+        biscuit_verify(
+            set,
+            public_key.as_ptr(), public_key.len(),
+            message.as_ptr(), message.len(),
+            signature.as_ptr(), signature.len(),
+            work.as_mut_ptr(), work.len(),
+        )
+    }
+}
+
+/// Writes an envelope.
+pub fn write_envelope(set: usize, public_key: &[u8], signature: &[u8], message: &[u8], envelope: &mut [u8]) -> u8 {
+    unsafe {
+        envelope_write(
+            set,
+            public_key.as_ptr(), public_key.len(),
+            signature.as_ptr(), signature.len(),
+            message.as_ptr(), message.len(),
+            envelope.as_mut_ptr(), envelope.len(),
+        )
+    }
+}
+
+/// Reads an envelope: the set, and where public key, signature and message begin.
+pub fn read_envelope(envelope: &[u8], places: &mut [usize; 4]) -> u8 {
+    let (bytes, size) = (envelope.as_ptr(), envelope.len());
+    let (number, header, parts) = unsafe { (envelope_read(bytes, size), envelope_header(bytes, size), envelope_places(bytes, size)) };
+    *places = [header.set, parts.key, parts.signature, parts.message];
+    number
+}

@@ -1,0 +1,267 @@
+/*
+ * The signing desk for programs in C and C++: the calls of the proved static library libdesk.a, what each of them promises,
+ * the sizes of the six sets, and the words of each answer.
+ *
+ * What holds for every call:
+ *   - A part is lent as a pointer and its number of bytes. Parts that are lent to one call must not overlap. A part of 0 bytes
+ *     may have any pointer, also NULL. Inputs are not changed.
+ *   - The answer is a number of the table below. Where several refusals apply, the lowest number is given; a call tests only
+ *     what it has.
+ *   - Answers 1 to 7, 10 and 11 change nothing. After 0, 8 and 9 the first BISCUIT_WORK_SIZE bytes of work are zero and its
+ *     later bytes are as they were. After 8 and 9 no output has changed. After 0 an output holds the result first, and its later
+ *     bytes are as they were.
+ *   - What work held before does not matter, so one buffer serves many calls, one after another.
+ *   - Nothing is allocated, nothing is kept from call to call, and no random number is drawn.
+ * The promises are proved of the library's calls (crates/desk). Sizes and words in this file are held to them by tests/c/run.
+ */
+#ifndef BISCUIT_H
+#define BISCUIT_H
+
+#include <stddef.h>
+#include <stdint.h>
+
+#ifdef __cplusplus
+extern "C" {
+#endif
+
+/* The six sets. A call takes the number as a size_t, so that no number is cut off before it is tested. */
+enum biscuit_set {
+    BISCUIT_128S = 1,
+    BISCUIT_128F = 2,
+    BISCUIT_192S = 3,
+    BISCUIT_192F = 4,
+    BISCUIT_256S = 5,
+    BISCUIT_256F = 6
+};
+
+/* What the desk says. */
+enum biscuit_answer {
+    BISCUIT_DONE = 0,
+    BISCUIT_NO_SUCH_SET = 1,
+    BISCUIT_SEED_OR_RANDOM_LENGTH = 2,
+    BISCUIT_MESSAGE_TOO_LONG = 3,
+    BISCUIT_KEY_LENGTH = 4,
+    BISCUIT_SIGNATURE_LENGTH = 5,
+    BISCUIT_OUTPUT_TOO_SHORT = 6,
+    BISCUIT_WORK_TOO_SHORT = 7,
+    BISCUIT_KEY_NOT_CONSISTENT = 8,
+    BISCUIT_NOT_ACCEPTED = 9,
+    BISCUIT_ENVELOPE_LENGTH = 10,
+    BISCUIT_ENVELOPE_VERSION = 11
+};
+
+/* The bytes of work that a call wants, the longest message, and the header of an envelope. */
+#define BISCUIT_WORK_SIZE 65536u
+#define BISCUIT_MESSAGE_LIMIT 32768u
+#define BISCUIT_HEADER_SIZE 3u
+
+/* Room that is enough for every set. */
+#define BISCUIT_LARGEST_SEED_SIZE 32u
+#define BISCUIT_LARGEST_SECRET_KEY_SIZE 212u
+#define BISCUIT_LARGEST_PUBLIC_KEY_SIZE 93u
+#define BISCUIT_LARGEST_SIGNATURE_SIZE 27348u
+#define BISCUIT_LARGEST_ENVELOPE_SIZE 60212u
+
+/* The sizes of each set, in bytes. */
+#define BISCUIT_128S_SEED_SIZE 16u
+#define BISCUIT_128S_SECRET_KEY_SIZE 115u
+#define BISCUIT_128S_PUBLIC_KEY_SIZE 50u
+#define BISCUIT_128S_SIGNATURE_SIZE 4758u
+
+#define BISCUIT_128F_SEED_SIZE 16u
+#define BISCUIT_128F_SECRET_KEY_SIZE 115u
+#define BISCUIT_128F_PUBLIC_KEY_SIZE 50u
+#define BISCUIT_128F_SIGNATURE_SIZE 6726u
+
+#define BISCUIT_192S_SEED_SIZE 24u
+#define BISCUIT_192S_SECRET_KEY_SIZE 158u
+#define BISCUIT_192S_PUBLIC_KEY_SIZE 69u
+#define BISCUIT_192S_SIGNATURE_SIZE 11349u
+
+#define BISCUIT_192F_SEED_SIZE 24u
+#define BISCUIT_192F_SECRET_KEY_SIZE 158u
+#define BISCUIT_192F_PUBLIC_KEY_SIZE 69u
+#define BISCUIT_192F_SIGNATURE_SIZE 15129u
+
+#define BISCUIT_256S_SEED_SIZE 32u
+#define BISCUIT_256S_SECRET_KEY_SIZE 212u
+#define BISCUIT_256S_PUBLIC_KEY_SIZE 93u
+#define BISCUIT_256S_SIGNATURE_SIZE 20192u
+
+#define BISCUIT_256F_SEED_SIZE 32u
+#define BISCUIT_256F_SECRET_KEY_SIZE 212u
+#define BISCUIT_256F_PUBLIC_KEY_SIZE 93u
+#define BISCUIT_256F_SIGNATURE_SIZE 27348u
+
+/* The same by the set's number: all 0 where there is no such set. Random bytes for signing number 0 or twice a seed. */
+struct biscuit_sizes {
+    size_t seed, secret_key, public_key, signature;
+};
+
+static inline struct biscuit_sizes biscuit_sizes_of(size_t set)
+{
+    static const struct biscuit_sizes sizes[] = {
+        {0, 0, 0, 0},
+        {BISCUIT_128S_SEED_SIZE, BISCUIT_128S_SECRET_KEY_SIZE, BISCUIT_128S_PUBLIC_KEY_SIZE, BISCUIT_128S_SIGNATURE_SIZE},
+        {BISCUIT_128F_SEED_SIZE, BISCUIT_128F_SECRET_KEY_SIZE, BISCUIT_128F_PUBLIC_KEY_SIZE, BISCUIT_128F_SIGNATURE_SIZE},
+        {BISCUIT_192S_SEED_SIZE, BISCUIT_192S_SECRET_KEY_SIZE, BISCUIT_192S_PUBLIC_KEY_SIZE, BISCUIT_192S_SIGNATURE_SIZE},
+        {BISCUIT_192F_SEED_SIZE, BISCUIT_192F_SECRET_KEY_SIZE, BISCUIT_192F_PUBLIC_KEY_SIZE, BISCUIT_192F_SIGNATURE_SIZE},
+        {BISCUIT_256S_SEED_SIZE, BISCUIT_256S_SECRET_KEY_SIZE, BISCUIT_256S_PUBLIC_KEY_SIZE, BISCUIT_256S_SIGNATURE_SIZE},
+        {BISCUIT_256F_SEED_SIZE, BISCUIT_256F_SECRET_KEY_SIZE, BISCUIT_256F_PUBLIC_KEY_SIZE, BISCUIT_256F_SIGNATURE_SIZE}
+    };
+    return sizes[set <= BISCUIT_256F ? set : 0];
+}
+
+/* The words of an answer. */
+static inline const char *biscuit_words(unsigned answer)
+{
+    switch (answer) {
+    case BISCUIT_DONE: return "done or genuine";
+    case BISCUIT_NO_SUCH_SET: return "set outside 1 to 6";
+    case BISCUIT_SEED_OR_RANDOM_LENGTH: return "a key seed isn't S bytes, or random bytes are neither 0 nor 2S";
+    case BISCUIT_MESSAGE_TOO_LONG: return "message over 32,768 bytes";
+    case BISCUIT_KEY_LENGTH: return "key length wrong";
+    case BISCUIT_SIGNATURE_LENGTH: return "signature length wrong";
+    case BISCUIT_OUTPUT_TOO_SHORT: return "an output is shorter than the result";
+    case BISCUIT_WORK_TOO_SHORT: return "work buffer under 65,536 bytes";
+    case BISCUIT_KEY_NOT_CONSISTENT: return "secret key not consistent";
+    case BISCUIT_NOT_ACCEPTED: return "verification doesn't accept";
+    case BISCUIT_ENVELOPE_LENGTH: return "envelope under 3 bytes, or total length wrong";
+    case BISCUIT_ENVELOPE_VERSION: return "envelope version isn't 1";
+    default: return "no answer of the desk";
+    }
+}
+
+/*
+ * Makes a key pair from two seeds of S bytes: from the same seeds always the same pair.
+ *   1  set outside 1 to 6
+ *   2  a seed isn't S bytes
+ *   6  secret_key or public_key has less room than its key
+ *   7  work under 65,536 bytes
+ *   0  secret_key holds the secret key first, public_key the public key
+ */
+uint8_t biscuit_make_keys(size_t set,
+                          const uint8_t *circuit_seed, size_t circuit_seed_size,
+                          const uint8_t *secret_seed, size_t secret_seed_size,
+                          uint8_t *secret_key, size_t secret_key_size,
+                          uint8_t *public_key, size_t public_key_size,
+                          uint8_t *work, size_t work_size);
+
+/*
+ * Gives the public half of a secret key.
+ *   1  set outside 1 to 6
+ *   4  secret_key has another length than a secret key
+ *   6  public_key has less room than a public key
+ *   7  work under 65,536 bytes
+ *   8  the secret key is not consistent: its own circuit seed and s give other values than it holds
+ *   0  public_key holds the public key first
+ */
+uint8_t biscuit_public_half(size_t set,
+                            const uint8_t *secret_key, size_t secret_key_size,
+                            uint8_t *public_key, size_t public_key_size,
+                            uint8_t *work, size_t work_size);
+
+/*
+ * Signs a message. Random bytes are the caller's: 2S bytes that nobody can foretell, or none at all, and then the same key and
+ * message always give the same signature.
+ *   1  set outside 1 to 6
+ *   2  random bytes are neither 0 nor 2S
+ *   3  message over 32,768 bytes
+ *   4  secret_key has another length than a secret key
+ *   6  signature has less room than a signature
+ *   7  work under 65,536 bytes
+ *   8  the secret key is not consistent
+ *   0  signature holds the signature first; biscuit_verify accepts it under the public half of the key
+ */
+uint8_t biscuit_sign(size_t set,
+                     const uint8_t *secret_key, size_t secret_key_size,
+                     const uint8_t *message, size_t message_size,
+                     const uint8_t *random, size_t random_size,
+                     uint8_t *signature, size_t signature_size,
+                     uint8_t *work, size_t work_size);
+
+/*
+ * Verifies a signature.
+ *   1  set outside 1 to 6
+ *   3  message over 32,768 bytes
+ *   4  public_key has another length than a public key
+ *   5  signature has another length than a signature
+ *   7  work under 65,536 bytes
+ *   9  the signature is not accepted
+ *   0  genuine: the signature is accepted for this message under this key
+ */
+uint8_t biscuit_verify(size_t set,
+                       const uint8_t *public_key, size_t public_key_size,
+                       const uint8_t *message, size_t message_size,
+                       const uint8_t *signature, size_t signature_size,
+                       uint8_t *work, size_t work_size);
+
+/*
+ * Writes a clip envelope: a header of three bytes (version 1 in four bits, the set in four, the length of the message in
+ * sixteen, most significant first), the public key, the signature, the message, and nothing after. What key and signature hold
+ * is not looked at.
+ *   1  set outside 1 to 6
+ *   3  message over 32,768 bytes
+ *   4  public_key has another length than a public key
+ *   5  signature has another length than a signature
+ *   6  envelope has less room than header, key, signature and message together
+ *   0  envelope holds the envelope first
+ */
+uint8_t envelope_write(size_t set,
+                       const uint8_t *public_key, size_t public_key_size,
+                       const uint8_t *signature, size_t signature_size,
+                       const uint8_t *message, size_t message_size,
+                       uint8_t *envelope, size_t envelope_size);
+
+/*
+ * Reads a clip envelope. It tests in an order of its own, and whether the signature is genuine is for biscuit_verify to say.
+ *   10  under 3 bytes
+ *   11  version isn't 1
+ *   1   set outside 1 to 6
+ *   3   message over 32,768 bytes
+ *   10  the total length is another than the header says
+ *   0   header and places say what it holds and where
+ */
+uint8_t envelope_read(const uint8_t *envelope, size_t envelope_size);
+
+/* The header of an envelope: its version, its set and the length of its message. All 0 where envelope_read refuses. */
+struct biscuit_header {
+    size_t version, set, length;
+};
+struct biscuit_header envelope_header(const uint8_t *envelope, size_t envelope_size);
+
+/* Where public key, signature and message begin in an envelope, and where the message ends. All 0 where envelope_read refuses. */
+struct biscuit_places {
+    size_t public_key, signature, message, end;
+};
+struct biscuit_places envelope_places(const uint8_t *envelope, size_t envelope_size);
+
+/* The parts of an envelope as parts of the caller's own bytes. On refusal each is the part of length 0 at its start. */
+struct biscuit_parts {
+    size_t set;
+    const uint8_t *public_key, *signature, *message;
+    size_t public_key_size, signature_size, message_size;
+};
+
+/* The three calls together, with the parts in the place of numbers; answers what envelope_read answers. */
+static inline uint8_t biscuit_parts_of(const uint8_t *envelope, size_t envelope_size, struct biscuit_parts *parts)
+{
+    struct biscuit_places places = envelope_places(envelope, envelope_size);
+    parts->set = envelope_header(envelope, envelope_size).set;
+    parts->public_key = envelope + places.public_key;
+    parts->public_key_size = places.signature - places.public_key;
+    parts->signature = envelope + places.signature;
+    parts->signature_size = places.message - places.signature;
+    parts->message = envelope + places.message;
+    parts->message_size = places.end - places.message;
+    return envelope_read(envelope, envelope_size);
+}
+
+/* Fills the whole of out with SHAKE256 of the message. In an archive of its own, libshake.a. */
+void biscuit_shake256(const uint8_t *message, size_t message_size, uint8_t *out, size_t out_size);
+
+#ifdef __cplusplus
+}
+#endif
+
+#endif
