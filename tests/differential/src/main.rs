@@ -1,4 +1,5 @@
-//! Runs each call of the proved desk and of the independent program on the same bytes, and compares the answer and every byte that was lent.
+//! Runs each call of the proved desk and of the independent program on the same bytes, and compares the answer and every byte that was lent: outputs and work with the other program's,
+//! inputs with what was given.
 
 mod envelopes;
 
@@ -78,6 +79,17 @@ fn same(call: &str, what: &str, ours: &[u8], theirs: &[u8]) {
     }
 }
 
+/// A call gets copies of its inputs, and has to leave them as they were given. What a shared slice holds counts as unchanged for the compiler, so it is told to look again.
+fn kept(call: &str, lent: &[Vec<u8>], given: &[&[u8]]) {
+    for (lent, given) in lent.iter().zip(given) {
+        same(call, "an input", std::hint::black_box(lent), given);
+    }
+}
+
+fn copies(given: &[&[u8]]) -> Vec<Vec<u8>> {
+    given.iter().map(|input| input.to_vec()).collect()
+}
+
 fn answers(call: &'static str, ours: u8, theirs: u8, reached: &mut Reached) -> u8 {
     assert_eq!(ours, theirs, "{call}: the desk answers {ours}, the independent program {theirs}");
     reached.insert((call, ours));
@@ -87,7 +99,10 @@ fn answers(call: &'static str, ours: u8, theirs: u8, reached: &mut Reached) -> u
 fn make_keys(set: usize, a: &[u8], b: &[u8], sk: &[u8], pk: &[u8], work: &[u8], reached: &mut Reached) -> (u8, Vec<u8>, Vec<u8>) {
     let (mut sk1, mut pk1, mut w1) = (sk.to_vec(), pk.to_vec(), work.to_vec());
     let (mut sk2, mut pk2, mut w2) = (sk.to_vec(), pk.to_vec(), work.to_vec());
-    let r = answers("make keys", calls::make_keys(set, a, b, &mut sk1, &mut pk1, &mut w1), desk::make_keys(set, a, b, &mut sk2, &mut pk2, &mut w2), reached);
+    let lent = copies(&[a, b]);
+    let ours = calls::make_keys(set, &lent[0], &lent[1], &mut sk1, &mut pk1, &mut w1);
+    kept("make keys", &lent, &[a, b]);
+    let r = answers("make keys", ours, desk::make_keys(set, a, b, &mut sk2, &mut pk2, &mut w2), reached);
     same("make keys", "the secret key", &sk1, &sk2);
     same("make keys", "the public key", &pk1, &pk2);
     same("make keys", "work", &w1, &w2);
@@ -97,7 +112,10 @@ fn make_keys(set: usize, a: &[u8], b: &[u8], sk: &[u8], pk: &[u8], work: &[u8], 
 fn public_half(set: usize, sk: &[u8], pk: &[u8], work: &[u8], reached: &mut Reached) -> (u8, Vec<u8>) {
     let (mut pk1, mut w1) = (pk.to_vec(), work.to_vec());
     let (mut pk2, mut w2) = (pk.to_vec(), work.to_vec());
-    let r = answers("public half", calls::public_half(set, sk, &mut pk1, &mut w1), desk::public_half(set, sk, &mut pk2, &mut w2), reached);
+    let lent = copies(&[sk]);
+    let ours = calls::public_half(set, &lent[0], &mut pk1, &mut w1);
+    kept("public half", &lent, &[sk]);
+    let r = answers("public half", ours, desk::public_half(set, sk, &mut pk2, &mut w2), reached);
     same("public half", "the public key", &pk1, &pk2);
     same("public half", "work", &w1, &w2);
     (r, pk1)
@@ -106,7 +124,10 @@ fn public_half(set: usize, sk: &[u8], pk: &[u8], work: &[u8], reached: &mut Reac
 fn sign(set: usize, sk: &[u8], message: &[u8], random: &[u8], signature: &[u8], work: &[u8], reached: &mut Reached) -> (u8, Vec<u8>) {
     let (mut s1, mut w1) = (signature.to_vec(), work.to_vec());
     let (mut s2, mut w2) = (signature.to_vec(), work.to_vec());
-    let r = answers("sign", calls::sign(set, sk, message, random, &mut s1, &mut w1), desk::sign(set, sk, message, random, &mut s2, &mut w2), reached);
+    let lent = copies(&[sk, message, random]);
+    let ours = calls::sign(set, &lent[0], &lent[1], &lent[2], &mut s1, &mut w1);
+    kept("sign", &lent, &[sk, message, random]);
+    let r = answers("sign", ours, desk::sign(set, sk, message, random, &mut s2, &mut w2), reached);
     same("sign", "the signature", &s1, &s2);
     same("sign", "work", &w1, &w2);
     (r, s1)
@@ -114,7 +135,10 @@ fn sign(set: usize, sk: &[u8], message: &[u8], random: &[u8], signature: &[u8], 
 
 fn verify(set: usize, pk: &[u8], message: &[u8], signature: &[u8], work: &[u8], reached: &mut Reached) -> u8 {
     let (mut w1, mut w2) = (work.to_vec(), work.to_vec());
-    let r = answers("verify", calls::verify(set, pk, message, signature, &mut w1), desk::verify(set, pk, message, signature, &mut w2), reached);
+    let lent = copies(&[pk, message, signature]);
+    let ours = calls::verify(set, &lent[0], &lent[1], &lent[2], &mut w1);
+    kept("verify", &lent, &[pk, message, signature]);
+    let r = answers("verify", ours, desk::verify(set, pk, message, signature, &mut w2), reached);
     same("verify", "work", &w1, &w2);
     r
 }

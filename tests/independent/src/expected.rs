@@ -1,6 +1,10 @@
 //! The expected output of the test programs: one line a case, the case named, bytes in lower-case
 //! hexadecimal.
 
+mod case;
+mod cases;
+mod desk;
+
 use crate::clips;
 use crate::field::pack;
 use crate::forms::{eval_circuit, expand_circuit, linear_values, Circuit};
@@ -22,6 +26,7 @@ pub fn expected(name: &str) -> Option<String> {
         "forms" => Some(of_sets(&[1, 2, 3, 4, 5, 6], forms)),
         "parties" => Some(of_sets(&[2, 5], parties)),
         "clip" => Some(clips::lines()),
+        "desk" => Some(of_sets(&[1, 2, 3, 4, 5, 6], desk::desk)),
         _ => None,
     }
 }
@@ -48,11 +53,11 @@ fn sponge() -> String {
     lines
 }
 
-/// The lines of a test for some sets.
+/// The lines of a test for some sets, each set worked by a thread of its own.
 fn of_sets(sets: &[usize], lines: fn(usize, &Parameters) -> String) -> String {
-    sets.iter()
-        .map(|set| lines(*set, parameters(*set).unwrap()))
-        .collect()
+    let work = |&set| std::thread::spawn(move || lines(set, parameters(set).unwrap()));
+    let works: Vec<_> = sets.iter().map(work).collect();
+    works.into_iter().map(|work| work.join().unwrap()).collect()
 }
 
 /// The seed tree of repetition 3: all leaves, and for the first, the sixth and the last party the

@@ -17,7 +17,7 @@ fn main() {
     match answer {
         Some(text) => print!("{text}"),
         None => {
-            eprintln!("usage: independent expected sponge | tree | forms | parties | clip");
+            eprintln!("usage: independent expected sponge | tree | forms | parties | clip | desk");
             eprintln!("       independent clips FOLDER");
             exit(2);
         }
