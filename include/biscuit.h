@@ -26,12 +26,9 @@ extern "C" {
 
 /* The six sets. A call takes the number as a size_t, so that no number is cut off before it is tested. */
 enum biscuit_set {
-    BISCUIT_128S = 1,
-    BISCUIT_128F = 2,
-    BISCUIT_192S = 3,
-    BISCUIT_192F = 4,
-    BISCUIT_256S = 5,
-    BISCUIT_256F = 6
+    BISCUIT_128S = 1, BISCUIT_128F = 2,
+    BISCUIT_192S = 3, BISCUIT_192F = 4,
+    BISCUIT_256S = 5, BISCUIT_256F = 6
 };
 
 /* What the desk says. */
@@ -67,36 +64,29 @@ enum biscuit_answer {
 #define BISCUIT_128S_SECRET_KEY_SIZE 115u
 #define BISCUIT_128S_PUBLIC_KEY_SIZE 50u
 #define BISCUIT_128S_SIGNATURE_SIZE 4758u
-
 #define BISCUIT_128F_SEED_SIZE 16u
 #define BISCUIT_128F_SECRET_KEY_SIZE 115u
 #define BISCUIT_128F_PUBLIC_KEY_SIZE 50u
 #define BISCUIT_128F_SIGNATURE_SIZE 6726u
-
 #define BISCUIT_192S_SEED_SIZE 24u
 #define BISCUIT_192S_SECRET_KEY_SIZE 158u
 #define BISCUIT_192S_PUBLIC_KEY_SIZE 69u
 #define BISCUIT_192S_SIGNATURE_SIZE 11349u
-
 #define BISCUIT_192F_SEED_SIZE 24u
 #define BISCUIT_192F_SECRET_KEY_SIZE 158u
 #define BISCUIT_192F_PUBLIC_KEY_SIZE 69u
 #define BISCUIT_192F_SIGNATURE_SIZE 15129u
-
 #define BISCUIT_256S_SEED_SIZE 32u
 #define BISCUIT_256S_SECRET_KEY_SIZE 212u
 #define BISCUIT_256S_PUBLIC_KEY_SIZE 93u
 #define BISCUIT_256S_SIGNATURE_SIZE 20192u
-
 #define BISCUIT_256F_SEED_SIZE 32u
 #define BISCUIT_256F_SECRET_KEY_SIZE 212u
 #define BISCUIT_256F_PUBLIC_KEY_SIZE 93u
 #define BISCUIT_256F_SIGNATURE_SIZE 27348u
 
 /* The same by the set's number: all 0 where there is no such set. Random bytes for signing number 0 or twice a seed. */
-struct biscuit_sizes {
-    size_t seed, secret_key, public_key, signature;
-};
+struct biscuit_sizes { size_t seed, secret_key, public_key, signature; };
 
 static inline struct biscuit_sizes biscuit_sizes_of(size_t set)
 {
@@ -225,15 +215,11 @@ uint8_t envelope_write(size_t set,
 uint8_t envelope_read(const uint8_t *envelope, size_t envelope_size);
 
 /* The header of an envelope: its version, its set and the length of its message. All 0 where envelope_read refuses. */
-struct biscuit_header {
-    size_t version, set, length;
-};
+struct biscuit_header { size_t version, set, length; };
 struct biscuit_header envelope_header(const uint8_t *envelope, size_t envelope_size);
 
 /* Where public key, signature and message begin in an envelope, and where the message ends. All 0 where envelope_read refuses. */
-struct biscuit_places {
-    size_t public_key, signature, message, end;
-};
+struct biscuit_places { size_t public_key, signature, message, end; };
 struct biscuit_places envelope_places(const uint8_t *envelope, size_t envelope_size);
 
 /* The parts of an envelope as parts of the caller's own bytes. On refusal each is the part of length 0 at its start. */
@@ -246,15 +232,16 @@ struct biscuit_parts {
 /* The three calls together, with the parts in the place of numbers; answers what envelope_read answers. */
 static inline uint8_t biscuit_parts_of(const uint8_t *envelope, size_t envelope_size, struct biscuit_parts *parts)
 {
+    uint8_t answer = envelope_read(envelope, envelope_size);
     struct biscuit_places places = envelope_places(envelope, envelope_size);
     parts->set = envelope_header(envelope, envelope_size).set;
-    parts->public_key = envelope + places.public_key;
+    parts->public_key = answer == BISCUIT_DONE ? envelope + places.public_key : envelope;
     parts->public_key_size = places.signature - places.public_key;
-    parts->signature = envelope + places.signature;
+    parts->signature = answer == BISCUIT_DONE ? envelope + places.signature : envelope;
     parts->signature_size = places.message - places.signature;
-    parts->message = envelope + places.message;
+    parts->message = answer == BISCUIT_DONE ? envelope + places.message : envelope;
     parts->message_size = places.end - places.message;
-    return envelope_read(envelope, envelope_size);
+    return answer;
 }
 
 /* Fills the whole of out with SHAKE256 of the message. In an archive of its own, libshake.a. */

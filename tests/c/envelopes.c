@@ -28,12 +28,13 @@ static void write_one(size_t set, struct biscuit_sizes size, unsigned lowest, in
     give_back(&public_key); give_back(&signature); give_back(&message); give_back(&envelope);
 }
 
-/* One call of envelope_read on so many bytes that start with these three; the parts have to lie where the sizes say, or be empty at the start. */
+/* Reads so many bytes that start with these three; header and parts have to be what the sizes say, or all 0 and empty at the start. */
 static void read_one(unsigned first, unsigned second, unsigned third, size_t total, unsigned right)
 {
     uint8_t header[3];
     struct part envelope;
     struct biscuit_parts parts;
+    struct biscuit_header says;
     struct biscuit_sizes size = biscuit_sizes_of(right ? 0 : first % 16);
     size_t key_at = right ? 0 : BISCUIT_HEADER_SIZE, signature_at = key_at + size.public_key, message_at = signature_at + size.signature;
     uint8_t answer;
@@ -43,7 +44,9 @@ static void read_one(unsigned first, unsigned second, unsigned third, size_t tot
     answer = biscuit_parts_of(envelope.bytes, envelope.size, &parts);
     expect_answer(answer, right);
     expect(kept(&envelope, 0), "an input changed", answer);
-    expect(parts.set == (right ? 0 : first % 16), "another set", answer);
+    says = envelope_header(envelope.bytes, envelope.size);
+    expect(says.version == (right ? 0 : 1) && says.length == (right ? 0 : second * 256 + third), "another version or length", answer);
+    expect(says.set == (right ? 0 : first % 16) && parts.set == says.set, "another set", answer);
     expect(parts.public_key == envelope.bytes + key_at && parts.public_key_size == size.public_key, "the public key is another part", answer);
     expect(parts.signature == envelope.bytes + signature_at && parts.signature_size == size.signature, "the signature is another part", answer);
     expect(parts.message == envelope.bytes + message_at && parts.message_size == (right ? 0 : total - message_at), "the message is another part", answer);
@@ -90,9 +93,12 @@ static void reading(size_t set)
 
 static void no_envelopes(void)
 {
+    struct biscuit_parts parts;
     size_t total;
     unsigned set;
     name_case(0, "read");
+    expect_answer(biscuit_parts_of(NULL, 0, &parts), BISCUIT_ENVELOPE_LENGTH);
+    expect(parts.set == 0 && parts.public_key == NULL && parts.message == NULL && parts.message_size == 0, "parts of nothing", 0);
     for (total = 0; total < 3; total++) {
         read_one(0x12, 0, 0, total, BISCUIT_ENVELOPE_LENGTH);
         read_one(0x20, 0, 0, total, BISCUIT_ENVELOPE_LENGTH);

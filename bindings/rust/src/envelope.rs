@@ -33,10 +33,10 @@ impl<'a> Envelope<'a> {
 
     /// Reads an envelope. Refuses, in this order: 10 under three bytes, 11, 1, 3, and 10 where the total length is wrong.
     pub fn read(envelope: &'a [u8]) -> Result<Envelope<'a>, Refusal> {
-        let mut places = [0; 4];
-        answer(raw::read_envelope(envelope, &mut places))?;
-        let [set, key, signature, message] = places;
-        Ok(Envelope { set: Set::from_number(set)?, public_key: &envelope[key..signature], signature: &envelope[signature..message], message: &envelope[message..] })
+        answer(raw::read_envelope(envelope))?;
+        let raw::Places { key, signature, message, end } = raw::places_of_envelope(envelope);
+        let set = Set::from_number(raw::header_of_envelope(envelope).set)?;
+        Ok(Envelope { set, public_key: &envelope[key..signature], signature: &envelope[signature..message], message: &envelope[message..end] })
     }
 
     /// Its set.

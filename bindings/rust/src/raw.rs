@@ -44,6 +44,7 @@ extern "C" {
 }
 
 /// The header of an envelope; all 0 on refusal.
+#[derive(Clone, Copy, Debug, PartialEq, Eq)]
 #[repr(C)]
 pub struct Header {
     pub version: usize,
@@ -52,6 +53,7 @@ pub struct Header {
 }
 
 /// Where the parts of an envelope begin, and where the last ends; all 0 on refusal.
+#[derive(Clone, Copy, Debug, PartialEq, Eq)]
 #[repr(C)]
 pub struct Places {
     pub key: usize,
@@ -126,10 +128,17 @@ pub fn write_envelope(set: usize, public_key: &[u8], signature: &[u8], message: 
     }
 }
 
-/// Reads an envelope: the set, and where public key, signature and message begin.
-pub fn read_envelope(envelope: &[u8], places: &mut [usize; 4]) -> u8 {
-    let (bytes, size) = (envelope.as_ptr(), envelope.len());
-    let (number, header, parts) = unsafe { (envelope_read(bytes, size), envelope_header(bytes, size), envelope_places(bytes, size)) };
-    *places = [header.set, parts.key, parts.signature, parts.message];
-    number
+/// Reads an envelope.
+pub fn read_envelope(envelope: &[u8]) -> u8 {
+    unsafe { envelope_read(envelope.as_ptr(), envelope.len()) }
+}
+
+/// Gives the header of an envelope.
+pub fn header_of_envelope(envelope: &[u8]) -> Header {
+    unsafe { envelope_header(envelope.as_ptr(), envelope.len()) }
+}
+
+/// Gives the places of an envelope's parts.
+pub fn places_of_envelope(envelope: &[u8]) -> Places {
+    unsafe { envelope_places(envelope.as_ptr(), envelope.len()) }
 }

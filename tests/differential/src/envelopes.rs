@@ -1,22 +1,30 @@
 //! Envelopes, written and read by the proved desk and by the independent program: hostile sizes, and headers and lengths around the right ones.
 
-use crate::{answers, same, Dice, Reached};
+use crate::{answers, copies, kept, same, Dice, Reached};
 use biscuit::raw;
 use independent::envelope;
 use independent::sets::Parameters;
 
 fn write(set: usize, key: &[u8], signature: &[u8], message: &[u8], room: &[u8], reached: &mut Reached) -> (u8, Vec<u8>) {
     let (mut e1, mut e2) = (room.to_vec(), room.to_vec());
-    let r = answers("write", raw::write_envelope(set, key, signature, message, &mut e1), envelope::write(set, key, signature, message, &mut e2), reached);
+    let lent = copies(&[key, signature, message]);
+    let ours = raw::write_envelope(set, &lent[0], &lent[1], &lent[2], &mut e1);
+    kept("write", &lent, &[key, signature, message]);
+    let r = answers("write", ours, envelope::write(set, key, signature, message, &mut e2), reached);
     same("write", "the envelope", &e1, &e2);
     (r, e1)
 }
 
 fn read(bytes: &[u8], reached: &mut Reached) -> u8 {
-    let mut places = [7; 4];
     let parts = envelope::read(bytes);
-    let r = answers("read", raw::read_envelope(bytes, &mut places), parts.number, reached);
-    assert_eq!(places, [parts.set, parts.public_key.start, parts.signature.start, parts.message.start], "read: the places differ");
+    let lent = copies(&[bytes]);
+    let r = answers("read", raw::read_envelope(&lent[0]), parts.number, reached);
+    let header = raw::Header { version: if r == 0 { envelope::VERSION.into() } else { 0 }, set: parts.set, length: parts.message.len() };
+    assert_eq!(raw::header_of_envelope(&lent[0]), header, "read: the headers differ");
+    let places = raw::Places { key: parts.public_key.start, signature: parts.signature.start, message: parts.message.start, end: parts.message.end };
+    assert_eq!(raw::places_of_envelope(&lent[0]), places, "read: the places differ");
+    assert_eq!((parts.public_key.end, parts.signature.end), (places.signature, places.message));
+    kept("read", &lent, &[bytes]);
     r
 }
 
