@@ -1,4 +1,3 @@
-pub mod Comparisons
 pub mod Laws
 pub mod OneOutcome
 pub mod PackedSums

@@ -20,9 +20,7 @@ use Rattle.lanes.specs.Lanes.{lane, Holds, Turned}
 use Rattle.lanes.proofs.Packed.{turned-holds}
 use Rattle.marks.specs.Marks.{Mark, EachWord, MarkedWord, Marked}
 use Rattle.sponge.specs.Sponge.{shake256}
-use Rattle.sponge.specs.declared.Tape.{Tape}
-use Rattle.sponge.specs.Steps.{fresh, absorbed, finished, given}
-use Rattle.sponge.proofs.Laws.{given-shake256, length-shake256}
+use Rattle.sponge.proofs.Laws.{length-shake256}
 use Rattle.hashes.specs.Hashes.{tapeFields}
 use Rattle.forms.specs.Circuit.{Circuit}
 use Rattle.forms.specs.Sampling.{sampleElements}
@@ -53,16 +51,16 @@ unfolding packedLength
 half-up n = omega arith
 
 -- what a tape gives is laid over the start of the bytes
-pub filled-tape : (bytes last fields : List ℕ) (n len : ℕ) (t : Tape) → n ≡ len → len ≤ length bytes → t ≡ finished (absorbed fresh fields)
-    → last ≡ given t (length (take (n - 0) (drop 0 bytes))) → take 0 bytes ++ (last ++ drop (n - 0) (drop 0 bytes)) ≡ put bytes 0 (shake256 fields len)
-filled-tape bytes last fields n len t e room et el =
+pub filled-tape : (bytes last fields : List ℕ) (n len : ℕ) → n ≡ len → len ≤ length bytes
+    → last ≡ shake256 fields (length (take (n - 0) (drop 0 bytes))) → take 0 bytes ++ (last ++ drop (n - 0) (drop 0 bytes)) ≡ put bytes 0 (shake256 fields len)
+filled-tape bytes last fields n len e room el =
     lent-put bytes 0 n last (ap length whole ∙ length-shake256 fields len ∙ (let i : len ≡ n - 0 = omega arith in i)) ∙ ap (put bytes 0) whole
   where
     part : length (take (n - 0) (drop 0 bytes)) ≡ len
     part = length-take-le (n - 0) (drop 0 bytes) (omega arith) ∙ sub-zero n ∙ e
 
     whole : last ≡ shake256 fields len
-    whole = el ∙ ap₂ given et part ∙ given-shake256 fields len
+    whole = el ∙ ap (shake256 fields) part
 
 module _ (rep : Rep) where
   -- ---- where things stand

@@ -82,8 +82,7 @@ fn fill(rep: Rep, salt: &[u8], i: usize, seed: &[u8], bytes: &mut [u8])
     ensures { λ r. ⌜ now (bytes .exit) ≡ put (now (bytes .entry)) 0 (shake256 (tapeFields (now (salt .entry)) (rep .e) i (now (seed .entry))) (tapeLength rep)) ⌝ }
 {
     let n = rep.n / 2 + rep.n % 2 + (rep.m / 2 + rep.m % 2) + (rep.m / 2 + rep.m % 2);
-    let t = hashes::tape(salt, rep.e, i, seed);
-    t.squeeze(&mut bytes[0..n]);
+    hashes::tape(salt, rep.e, i, seed, &mut bytes[0..n]);
 }
 
 // The words of a tape, sixteen words apart.

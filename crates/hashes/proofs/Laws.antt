@@ -1,9 +1,8 @@
--- The fields of a use laid one after another in a block, the laws that callers cite, and the close comparison of document 01.
+-- The fields of a use laid one after another in a block, and the laws that callers cite.
 -- Assumes nothing.
-use mathlib.Core.Path.{_≡_, refl, ap, ap₂, _∙_}
+use mathlib.Core.Path.{_≡_, refl, ap, _∙_}
 use mathlib.Core.List.{List, [], _∷_, _++_, append-assoc}
-use Prim.Native.Nat.{ℕ, _+_, _-_, _*_, _/_, _%_, _<_}
-use native.Mathlib.Nat.{sub-zero}
+use Prim.Native.Nat.{ℕ, _+_, _*_, _/_, _%_, _<_}
 use native.Mathlib.Omega.{arith}
 use lib.ListN.{length, take, drop, set, length-append}
 use lib.Seq.{take-at}
@@ -12,12 +11,7 @@ use Rattle.memory.proofs.Parts.{set-put, put-section}
 use Rattle.sponge.specs.declared.Sponge.{Sponge}
 use Rattle.sponge.specs.Steps.{fresh, absorbed, finished, given}
 use Rattle.sponge.proofs.Laws.{absorbed-append, given-shake256, length-shake256}
-use Rattle.hashes.specs.Hashes.{enc16, commit, childSeeds, firstHash, secondHash, firstFields, secondFields, tapeFields, hash1, hash2, expandTape}
-
--- document 01, "16-bit 256 is 00 01"
-pub enc16-256 : enc16 256 ≡ 0x00 ∷ 0x01 ∷ []
-unfolding enc16
-enc16-256 = refl
+use Rattle.hashes.specs.Hashes.{enc16, commit, childSeeds, firstHash, secondHash, firstFields, secondFields, hash1, hash2}
 
 pub length-commit : (S : ℕ) (salt : List ℕ) (e i : ℕ) (seed : List ℕ) → length (commit S salt e i seed) ≡ 2 * S
 unfolding commit
@@ -41,7 +35,7 @@ second-absorbed salt h₁ σ₂ =
     absorbed-append fresh (secondHash ∷ (salt ++ h₁)) σ₂
     ∙ ap (λ (m : List ℕ). absorbed fresh (secondHash ∷ m)) (append-assoc salt h₁ σ₂)
 
--- what their tapes give, and the tape of a party
+-- what their tapes give
 pub given-first : (S : ℕ) (salt msg σ₁ : List ℕ) → given (finished (absorbed fresh (firstFields salt msg σ₁))) (2 * S) ≡ hash1 S salt msg σ₁
 unfolding hash1
 given-first S salt msg σ₁ = given-shake256 (firstFields salt msg σ₁) (2 * S)
@@ -49,10 +43,6 @@ given-first S salt msg σ₁ = given-shake256 (firstFields salt msg σ₁) (2 * 
 pub given-second : (S : ℕ) (salt h₁ σ₂ : List ℕ) → given (finished (absorbed fresh (secondFields salt h₁ σ₂))) (2 * S) ≡ hash2 S salt h₁ σ₂
 unfolding hash2
 given-second S salt h₁ σ₂ = given-shake256 (secondFields salt h₁ σ₂) (2 * S)
-
-pub given-tape : (salt : List ℕ) (e i : ℕ) (seed : List ℕ) (n : ℕ) → given (finished (absorbed fresh (tapeFields salt e i seed))) n ≡ expandTape salt e i seed n
-unfolding expandTape
-given-tape salt e i seed n = given-shake256 (tapeFields salt e i seed) n
 
 -- a byte and three fields laid one after another in a block
 set-first : (block : List ℕ) (byte : ℕ) → 0 < length block → set block 0 byte ≡ (byte ∷ []) ++ drop 1 block
@@ -83,11 +73,6 @@ pub take-assembled : (block : List ℕ) (byte : ℕ) (salt numbers seed x y z : 
 take-assembled block byte salt numbers seed x y z a b n h ea ex eb ey en ez =
     let together : take n z ≡ take (1 + length salt + length numbers + length seed) (put (put (put (set block 0 byte) 1 salt) (1 + length salt) numbers) (1 + length salt + length numbers) seed) = cc in
     together ∙ take-laid block byte salt numbers seed h
-
--- what `fields` absorbs
-pub absorbed-taken : (block fields : List ℕ) (n : ℕ) (s r : Sponge) → take n block ≡ fields → s ≡ fresh → r ≡ absorbed s (take (n - 0) (drop 0 block)) → r ≡ absorbed fresh fields
-absorbed-taken block fields n s r e f g =
-    g ∙ ap₂ absorbed f (ap (λ (k : ℕ). take k block) (sub-zero n) ∙ e)
 
 -- a byte and then a list are absorbed as one
 pub absorbed-after-byte : (byte : ℕ) (salt : List ℕ) (s t u : Sponge) → s ≡ fresh → t ≡ absorbed s (byte ∷ []) → u ≡ absorbed t salt → u ≡ absorbed fresh (byte ∷ salt)

@@ -5,7 +5,6 @@ use mathlib.Core.List.{List}
 use Prim.Native.Nat.{ℕ}
 use Rattle.memory.specs.Outcome.{OneOutcome}
 use Rattle.sponge.specs.declared.Sponge.{Sponge}
-use Rattle.sponge.specs.declared.Tape.{Tape}
 use Rattle.hashes.proofs.commit as commit
 use Rattle.hashes.proofs.children as children
 use Rattle.hashes.proofs.tape as tape
@@ -19,7 +18,7 @@ pub children-one-outcome : OneOutcome children.Kinds.ps children.Kinds.r childre
 children-one-outcome κs a good asked o q x y = ap (λ (l : List ℕ). (tt, (tt, (tt, (tt, (tt, (tt, (l, tt)))))))) (x .promised ∙ sym (y .promised))
 
 pub tape-one-outcome : OneOutcome tape.Kinds.ps tape.Kinds.r tape.Reads.Asked tape.Reads.Learnt
-tape-one-outcome κs a good asked o q x y = ap (λ (t : Tape). (t, (tt, (tt, (tt, (tt, tt)))))) (x .promised ∙ sym (y .promised))
+tape-one-outcome κs a good asked o q x y = ap (λ (l : List ℕ). (tt, (tt, (tt, (tt, (tt, (l, tt))))))) (x .promised ∙ sym (y .promised))
 
 pub first-one-outcome : OneOutcome first.Kinds.ps first.Kinds.r first.Reads.Asked first.Reads.Learnt
 first-one-outcome κs a good asked o q x y = ap (λ (s : Sponge). (s, (tt, tt))) (x .promised ∙ sym (y .promised))

@@ -1,14 +1,13 @@
 // Who hashes what: one function for each use of SHAKE256 that section 4.4 of the submission names. A use begins with a fixed byte of its own, written
 // ahead of its fields. Nothing here branches on a byte or reads at a place that a byte gives: the lengths and the numbers alone are looked at.
 use sponge::Sponge;
-use sponge::Tape;
 ghost use mathlib.Core.Path.{_≡_};
 ghost use mathlib.Core.List.{_∷_, _++_};
 ghost use Prim.Native.Nat.{_+_, _/_, _%_, _≤_, _<_};
 ghost use lib.ListN.{length, take};
 ghost use Rattle.memory.specs.Lists.{put};
 ghost use Rattle.sponge.specs.Sponge.{shake256};
-ghost use Rattle.sponge.specs.Steps.{fresh, absorbed, finished};
+ghost use Rattle.sponge.specs.Steps.{fresh, absorbed};
 ghost use Rattle.hashes.specs.Hashes.{commitFields, childFields, tapeFields, firstHash, secondHash};
 
 // The bytes that the uses begin with.
@@ -31,8 +30,7 @@ pub fn commit(salt: &[u8], e: usize, i: usize, seed: &[u8], out: &mut [u8])
     ensures { λ r. ⌜ now (out .exit) ≡ shake256 (commitFields (now (salt .entry)) e i (now (seed .entry))) (length (now (out .entry))) ⌝ }
 {
     let numbers = [low(e), high(e), low(i), high(i)];
-    let t = fields(COMMITMENT, salt, &numbers, seed).finish();
-    t.squeeze(out);
+    fields(COMMITMENT, salt, &numbers, seed, out);
 }
 
 // ChildSeeds: fills `out` with the seeds below the parent at level k, position j, of repetition e.
@@ -41,17 +39,16 @@ pub fn children(salt: &[u8], e: usize, k: usize, j: usize, seed: &[u8], out: &mu
     ensures { λ r. ⌜ now (out .exit) ≡ shake256 (childFields (now (salt .entry)) e k j (now (seed .entry))) (length (now (out .entry))) ⌝ }
 {
     let numbers = [low(e), high(e), low(k), high(k), low(j), high(j)];
-    let t = fields(CHILD_SEEDS, salt, &numbers, seed).finish();
-    t.squeeze(out);
+    fields(CHILD_SEEDS, salt, &numbers, seed, out);
 }
 
-// ExpandTape: the tape of party i with this seed in repetition e.
-pub fn tape(salt: &[u8], e: usize, i: usize, seed: &[u8]) -> Tape
+// ExpandTape: fills `out` with the start of the tape of party i with this seed in repetition e.
+pub fn tape(salt: &[u8], e: usize, i: usize, seed: &[u8], out: &mut [u8])
     requires { ⌜ (length (now salt) ≤ 64) × (length (now seed) ≤ 32) ⌝ }
-    ensures { λ r. ⌜ r ≡ finished (absorbed fresh (tapeFields (now (salt .entry)) e i (now (seed .entry)))) ⌝ }
+    ensures { λ r. ⌜ now (out .exit) ≡ shake256 (tapeFields (now (salt .entry)) e i (now (seed .entry))) (length (now (out .entry))) ⌝ }
 {
     let numbers = [low(e), high(e), low(i), high(i)];
-    fields(TAPE, salt, &numbers, seed).finish()
+    fields(TAPE, salt, &numbers, seed, out);
 }
 
 // H1 as it begins: the message and what the parties committed to are still to be absorbed.
@@ -71,20 +68,20 @@ pub fn second(salt: &[u8], h1: &[u8]) -> Sponge
     Sponge::new().absorb(&byte).absorb(salt).absorb(h1)
 }
 
-// A sponge that has absorbed the fields of a short use, all at once.
-fn fields(byte: u8, salt: &[u8], numbers: &[u8], seed: &[u8]) -> Sponge
+// Fills `out` with the hash of the fields of a short use, which lie in one block.
+fn fields(byte: u8, salt: &[u8], numbers: &[u8], seed: &[u8], out: &mut [u8])
     requires { ⌜ (length (now salt) ≤ 64) × (length (now numbers) ≤ 6) × (length (now seed) ≤ 32) ⌝ }
-    ensures { λ r. ⌜ r ≡ absorbed fresh (byte ∷ (now (salt .entry) ++ (now (numbers .entry) ++ now (seed .entry)))) ⌝ }
+    ensures { λ r. ⌜ now (out .exit) ≡ shake256 (byte ∷ (now (salt .entry) ++ (now (numbers .entry) ++ now (seed .entry)))) (length (now (out .entry))) ⌝ }
 {
     let mut block = [0u8; BLOCK];
     let n = assemble(byte, salt, numbers, seed, &mut block);
-    Sponge::new().absorb(&block[0..n])
+    sponge::short(&block[0..n], out);
 }
 
 // Writes the fields one after another to the start of `block`, and gives how many bytes they are.
 fn assemble(byte: u8, salt: &[u8], numbers: &[u8], seed: &[u8], block: &mut [u8]) -> usize
     requires { ⌜ 1 + length (now salt) + length (now numbers) + length (now seed) ≤ length (now block) ⌝ }
-    ensures { λ r. ⌜ (r ≤ length (now (block .entry))) × (take r (now (block .exit)) ≡ byte ∷ (now (salt .entry) ++ (now (numbers .entry) ++ now (seed .entry)))) ⌝ }
+    ensures { λ r. ⌜ (r ≡ 1 + length (now (salt .entry)) + length (now (numbers .entry)) + length (now (seed .entry))) × (take r (now (block .exit)) ≡ byte ∷ (now (salt .entry) ++ (now (numbers .entry) ++ now (seed .entry)))) ⌝ }
 {
     block[0] = byte;
     let a = section(salt, 1, block);

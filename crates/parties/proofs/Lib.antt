@@ -1,4 +1,3 @@
-pub mod Comparisons
 pub mod Corrections
 pub mod Growing
 pub mod Hidden

@@ -15,7 +15,7 @@ use lib.Pow.{pow-pos}
 use Rattle.keccak.specs.Keccak.{keccakF}
 use Rattle.sponge.specs.declared.Sponge.{Sponge}
 use Rattle.sponge.specs.Sponge.{rate, suffix, padded, xored, absorbing}
-use Rattle.sponge.specs.Steps.{sponge, tape, xorByte, xorBytes, turned, taken, within, absorbed, finished}
+use Rattle.sponge.specs.Steps.{sponge, tape, fresh, xorByte, xorBytes, turned, taken, within, absorbed, finished}
 use Rattle.sponge.proofs.Lanes.{xored-snoc, xored-bytes, xored-zeros, xorByte-twice}
 
 -- ---- in pieces
@@ -192,3 +192,18 @@ absorb-turn s bytes i n S x at r h k en so-far ex er =
     ∙ ap (λ (u : Sponge). absorbed u (take (i + n - i) (drop i bytes))) so-far
     ∙ absorbed-append s (take i bytes) (take (i + n - i) (drop i bytes))
     ∙ ap (absorbed s) (sym (take-add i (i + n - i) bytes) ∙ ap (λ (m : ℕ). take m bytes) (let g : i + (i + n - i) ≡ i + n = omega arith in g))
+
+-- ---- a message that is shorter than a block: its bytes, the suffix and the padding are xored into a state of zeros
+
+pub short-tape : (m x y z S : List ℕ) → length m < rate → x ≡ xorBytes (replicate 25 0) 0 m → y ≡ xorByte x (length m) 0x1f → z ≡ xorByte y (rate - 1) 0x80 → S ≡ keccakF z
+    → tape S 0 ≡ finished (absorbed fresh m)
+unfolding fresh
+short-tape m x y z S h ex ey ez eS =
+    ap (λ (T : List ℕ). tape T 0) (eS ∙ ap keccakF (ez ∙ ap (λ (T : List ℕ). xorByte T (rate - 1) 0x80) (ey ∙ ap (λ (T : List ℕ). xorByte T (length m) 0x1f) ex)))
+    ∙ sym (ap finished absorbed-all ∙ finished-part (xorBytes (replicate 25 0) 0 m) (length m) h)
+  where
+    absorbed-all : absorbed (sponge (replicate 25 0) 0) m ≡ sponge (xorBytes (replicate 25 0) 0 m) (length m)
+    absorbed-all =
+        absorbed-run (replicate 25 0) 0 m (omega arith) (omega arith)
+        ∙ ap (turned (xorBytes (replicate 25 0) 0 m)) (let e : 0 + length m ≡ length m = omega arith in e)
+        ∙ turned-open (xorBytes (replicate 25 0) 0 m) (length m) h

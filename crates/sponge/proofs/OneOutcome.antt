@@ -10,6 +10,7 @@ use Rattle.sponge.proofs.Sponge.new as new
 use Rattle.sponge.proofs.Sponge.absorb as absorb
 use Rattle.sponge.proofs.Sponge.finish as finish
 use Rattle.sponge.proofs.Tape.squeeze as squeeze
+use Rattle.sponge.proofs.short as short
 
 pub new-one-outcome : OneOutcome new.Kinds.ps new.Kinds.r new.Reads.Asked new.Reads.Learnt
 new-one-outcome κs a good asked o q x y = ap (λ (s : Sponge). (s, tt)) (x .promised ∙ sym (y .promised))
@@ -23,3 +24,6 @@ finish-one-outcome κs a good asked o q x y = ap (λ (t : Tape). (t, (tt, tt))) 
 pub squeeze-one-outcome : OneOutcome squeeze.Kinds.ps squeeze.Kinds.r squeeze.Reads.Asked squeeze.Reads.Learnt
 squeeze-one-outcome κs a good asked o q x y =
     ap₂ (λ (t : Tape) (l : List ℕ). (t, (tt, (l, tt)))) (x .promised .1 ∙ sym (y .promised .1)) (x .promised .0 ∙ sym (y .promised .0))
+
+pub short-one-outcome : OneOutcome short.Kinds.ps short.Kinds.r short.Reads.Asked short.Reads.Learnt
+short-one-outcome κs a good asked o q x y = ap (λ (l : List ℕ). (tt, (tt, (l, tt)))) (x .promised ∙ sym (y .promised))

@@ -3,9 +3,10 @@
 mod part;
 
 ghost use mathlib.Core.Path.{_≡_};
-ghost use Prim.Native.Nat.{min};
+ghost use Prim.Native.Nat.{min, _<_};
 ghost use lib.ListN.{length};
 ghost use Rattle.keccak.specs.Keccak.{keccakF};
+ghost use Rattle.sponge.specs.Sponge.{rate, shake256};
 ghost use Rattle.sponge.specs.Steps.{sponge, tape, fresh, absorbed, finished, given, moved, turned, ready};
 use part::RATE;
 
@@ -81,6 +82,24 @@ impl Tape {
         }
         Tape { lanes, at }
     }
+}
+
+// SHAKE256 of a message that is shorter than a block, in one go: its state is never handed on.
+pub fn short(message: &[u8], out: &mut [u8])
+    requires { ⌜ length (now message) < rate ⌝ }
+    ensures { λ r. ⌜ now (out .exit) ≡ shake256 (now (message .entry)) (length (now (out .entry))) ⌝ }
+{
+    let mut lanes = [0u64; 25];
+    part::xor(&mut lanes, 0, message);
+    part::xor_byte(&mut lanes, message.len(), 0x1f);
+    part::xor_byte(&mut lanes, RATE - 1, 0x80);
+    permute(&mut lanes);
+    if out.len() <= RATE {
+        part::give(&lanes, 0, out);
+        return;
+    }
+    let tape = Tape { lanes, at: 0 };
+    tape.squeeze(out);
 }
 
 // The lesser of two lengths.

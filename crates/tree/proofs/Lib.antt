@@ -5,5 +5,4 @@ pub mod Theorems
 pub mod Laying
 pub mod Walking
 pub mod Around
-pub mod Comparisons
 pub mod OneOutcome

@@ -13,9 +13,8 @@ use Rattle.field.specs.Packing.{nib, packedLength, unpack}
 use Rattle.field.specs.Vectors.{_⊕_, _⊙_}
 use Rattle.field.proofs.Packing.{nib-drop, length-unpack, getD-unpack}
 use Rattle.field.proofs.Vectors.{⊕-at, length-⊕, ⊙-at, length-⊙}
-use Rattle.sponge.specs.Steps.{fresh, absorbed, finished, given}
-use Rattle.sponge.specs.declared.Tape.{Tape}
-use Rattle.sponge.proofs.Laws.{given-shake256, length-given}
+use Rattle.sponge.specs.Sponge.{shake256}
+use Rattle.sponge.proofs.Laws.{length-shake256}
 use Rattle.hashes.specs.Hashes.{tapeFields, expandTape}
 use Rattle.views.specs.Views.{correctionS, correctionC}
 use Rattle.memory.proofs.Xors.{written-more, lent-start}
@@ -32,22 +31,20 @@ sum-entry more dst cur i e h c =
     written-more (dst ⊕ more) dst cur i (bitXor (getD cur i 0) (getD more i 0)) (omega arith) l c
     (ap (λ (x : ℕ). bitXor x (getD more i 0)) (ap (λ (x : List ℕ). getD x i 0) c ∙ copied-rest (dst ⊕ more) dst i (omega arith)) ∙ sym (⊕-at dst more i))
 
--- a tape that was squeezed to the start of a room is added
-pub added-tape : (salt seed : List ℕ) (e i : ℕ) (room last sums new : List ℕ) (t : Tape) → length sums ≤ length room
-    → t ≡ finished (absorbed fresh (tapeFields salt e i seed))
-    → last ≡ given t (length (take (length sums - 0) (drop 0 room)))
+-- a tape that fills the start of a room is added
+pub added-tape : (salt seed : List ℕ) (e i : ℕ) (room last sums new : List ℕ) → length sums ≤ length room
+    → last ≡ shake256 (tapeFields salt e i seed) (length (take (length sums - 0) (drop 0 room)))
     → new ≡ sums ⊕ take (length sums - 0) (drop 0 (take 0 room ++ (last ++ drop (length sums - 0) (drop 0 room))))
     → new ≡ sums ⊕ expandTape salt e i seed (length sums)
 unfolding expandTape
-added-tape salt seed e i room last sums new t h et el en =
+added-tape salt seed e i room last sums new h el en =
     let n = length sums in
     let size : length (take (n - 0) (drop 0 room)) ≡ n = length-take-le (n - 0) room (omega arith) ∙ (let z : n - 0 ≡ n = omega arith in z) in
     en
     ∙ ap (λ (x : List ℕ). sums ⊕ x)
-    (lent-start room last n h (ap length el ∙ length-given t (length (take (n - 0) (drop 0 room))))
+    (lent-start room last n h (ap length el ∙ length-shake256 (tapeFields salt e i seed) (length (take (n - 0) (drop 0 room))))
     ∙ el
-    ∙ ap₂ given et size
-    ∙ given-shake256 (tapeFields salt e i seed) n)
+    ∙ ap (shake256 (tapeFields salt e i seed)) size)
 
 -- ---- Δs
 

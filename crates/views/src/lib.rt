@@ -202,7 +202,7 @@ fn add_tape_in(salt: &[u8], e: usize, i: usize, seed: &[u8], room: &mut [u8], su
     ensures { λ r. ⌜ now (sums .exit) ≡ now (sums .entry) ⊕ expandTape (now (salt .entry)) e i (now (seed .entry)) (length (now (sums .entry))) ⌝ }
 {
     let n = sums.len();
-    hashes::tape(salt, e, i, seed).squeeze(&mut room[0..n]);
+    hashes::tape(salt, e, i, seed, &mut room[0..n]);
     add(&room[0..n], sums);
 }
 

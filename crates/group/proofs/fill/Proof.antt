@@ -1,4 +1,4 @@
--- `group::fill` meets its contract. What is squeezed from the tape is the beginning of SHAKE256.
+-- `group::fill` meets its contract. What the tape gives is laid over the start of the bytes.
 -- Assumes nothing.
 use mathlib.Core.Path.{_≡_, refl, sym, _∙_}
 use native.Mathlib.Omega.{arith}
@@ -22,30 +22,27 @@ add-n-4 c = search needs
 add-n-5 : tie.Need-add-n-5
 add-n-5 c = search needs
 
+sub-tape : tie.Need-sub-tape
+sub-tape c = search needs
+
+part-tape-start : tie.Need-part-tape-start
+part-tape-start c = search needs
+
+part-tape-end : tie.Need-part-tape-end
+part-tape-end c = search needs
+
 tape-requires : tie.Need-tape-requires
 tape-requires c κs = search needs
-
-sub-squeeze : tie.Need-sub-squeeze
-sub-squeeze c = search needs
-
-part-squeeze-start : tie.Need-part-squeeze-start
-part-squeeze-start c = search needs
-
-part-squeeze-end : tie.Need-part-squeeze-end
-part-squeeze-end c = search needs
-
-squeeze-requires : tie.Need-squeeze-requires
-squeeze-requires c κs = search needs
 
 same-length : tie.Need-same-length
 same-length c = search needs
 
 returns : tie.Need-returns
 returns c =
-    let s = c .before .before .before .before .before .before .before .before .before .before .before .before .before .before in
+    let s = c .before .before .before .before .before .before .before .before .before .before .before .before .before in
     let z = tape-room (s .args .rep) (s .pre .0) in
     let t = s .pre .3 in
-    filled-tape _ _ _ _ _ _ (tape-size (s .args .rep)) (omega arith) (c .before .before .before .before .tape .ensures) (c .before .before .squeeze .ensures .0)
+    filled-tape _ _ _ _ _ (tape-size (s .args .rep)) (omega arith) (c .before .before .tape .ensures)
 
 pub fill-spec : {M : Type 1} → statement M
 fill-spec =
@@ -56,10 +53,9 @@ fill-spec =
     add-n-3
     add-n-4
     add-n-5
+    sub-tape
+    part-tape-start
+    part-tape-end
     tape-requires
-    sub-squeeze
-    part-squeeze-start
-    part-squeeze-end
-    squeeze-requires
     same-length
     returns)

@@ -3,7 +3,8 @@
 use mathlib.Core.Path.{ap, _∙_}
 use mathlib.Core.List.{List, _∷_, _++_}
 use Prim.Native.Nat.{ℕ}
-use Rattle.sponge.specs.Steps.{fresh, absorbed, finished}
+use lib.ListN.{length}
+use Rattle.sponge.specs.Sponge.{shake256}
 use Rattle.hashes.specs.Hashes.{tapeFields, expandedTape}
 use Rattle.hashes.proofs.Laws.{two-numbers}
 use borrow.Author.Needs.{needs}
@@ -28,19 +29,16 @@ slice-aggregate-fields c = search needs
 fields-requires : tie.Need-fields-requires
 fields-requires c κs = search needs
 
-finish-requires : tie.Need-finish-requires
-finish-requires c κs = search needs
+same-length : tie.Need-same-length
+same-length c = search needs
 
 returns : tie.Need-returns
 unfolding tapeFields
 returns c =
-    let n = c .before .before in
-    let a = c .before .before .before .before .before .before .before .before .before .args in
-    c .finish .ensures
-    ∙ ap finished
-    (c .before .fields .ensures
-    ∙ ap (λ (x : List ℕ). absorbed fresh (expandedTape ∷ (a .salt .now ++ x)))
-    (two-numbers _ _ _ _ _ _ (a .seed .now) (n .before .before .before .before .low .ensures) (n .before .before .before .high .ensures) (n .before .before .low2 .ensures) (n .before .high2 .ensures)))
+    let a = c .before .before .before .before .before .before .before .before .before .before .before .before .args in
+    c .before .before .fields .ensures
+    ∙ ap (λ (x : List ℕ). shake256 (expandedTape ∷ (a .salt .now ++ x)) (length (a .out .now)))
+    (two-numbers _ _ _ _ _ _ (a .seed .now) (c .before .before .before .before .before .before .before .before .low .ensures) (c .before .before .before .before .before .before .before .high .ensures) (c .before .before .before .before .before .before .low2 .ensures) (c .before .before .before .before .before .high2 .ensures))
 
 pub tape-spec : {M : Type 1} → statement M
 tape-spec =
@@ -52,5 +50,5 @@ tape-spec =
     high-requires-2
     slice-aggregate-fields
     fields-requires
-    finish-requires
+    same-length
     returns)

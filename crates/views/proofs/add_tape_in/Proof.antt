@@ -5,20 +5,17 @@ use borrow.Author.Needs.{needs}
 use Rattle.views.proofs.add_tape_in.Statement.{statement}
 use Rattle.views.proofs.add_tape_in.Tie as tie
 
+sub-tape : tie.Need-sub-tape
+sub-tape c = search needs
+
+part-tape-start : tie.Need-part-tape-start
+part-tape-start c = search needs
+
+part-tape-end : tie.Need-part-tape-end
+part-tape-end c = search needs
+
 tape-requires : tie.Need-tape-requires
 tape-requires c κs = search needs
-
-sub-squeeze : tie.Need-sub-squeeze
-sub-squeeze c = search needs
-
-part-squeeze-start : tie.Need-part-squeeze-start
-part-squeeze-start c = search needs
-
-part-squeeze-end : tie.Need-part-squeeze-end
-part-squeeze-end c = search needs
-
-squeeze-requires : tie.Need-squeeze-requires
-squeeze-requires c κs = search needs
 
 sub-add : tie.Need-sub-add
 sub-add c = search needs
@@ -40,20 +37,18 @@ same-length-2 c = search needs
 
 returns : tie.Need-returns
 returns c =
-    let a = c .before .before .before .before .before .before .before .before .before .before .before .before .before .before .before .args in
-    let t = c .before .before .before .before .before .before .before .before .before .before .tape in
-    let q = c .before .before .before .before .before .before .before .before .squeeze in
-    added-tape (a .salt .now) (a .seed .now) (a .e) (a .i) (a .room .now) (q .last .1 .0) (a .sums .now) _ (t .result) (c .before .before .before .before .before .before .before .before .before .before .before .before .before .before .before .pre .2) (t .ensures) (q .ensures .0) (c .before .before .add .ensures)
+    let s = c .before .before .before .before .before .before .before .before .before .before .before .before .before .before in
+    let t = c .before .before .before .before .before .before .before .before .tape in
+    added-tape (s .args .salt .now) (s .args .seed .now) (s .args .e) (s .args .i) (s .args .room .now) (t .last .1 .1 .1 .1 .0) (s .args .sums .now) _ (s .pre .2) (t .ensures) (c .before .before .add .ensures)
 
 pub add-tape-in-spec : {M : Type 1} → statement M
 add-tape-in-spec =
     tie.close
     (tie.spec
+    sub-tape
+    part-tape-start
+    part-tape-end
     tape-requires
-    sub-squeeze
-    part-squeeze-start
-    part-squeeze-end
-    squeeze-requires
     sub-add
     part-add-start
     part-add-end
