@@ -46,6 +46,9 @@ fn main() {
         measure("make keys", number, &mut || assert_eq!(raw::make_keys(number, seed, &message[..set.s], &mut secret, &mut public, &mut work), 0));
         measure("public half", number, &mut || assert_eq!(raw::public_half(number, &secret, &mut public, &mut work), 0));
         measure("sign", number, &mut || assert_eq!(raw::sign(number, &secret, &message, &[], &mut signature, &mut work), 0));
+        let mut envelope = vec![0; 3 + set.public_key + set.signature + MESSAGE];
+        measure("envelope write", number, &mut || assert_eq!(raw::write_envelope(number, &public, &signature, &message, &mut envelope), 0));
+        measure("envelope read", number, &mut || assert_eq!(raw::read_envelope(&envelope), 0));
         measure("verify", number, &mut || assert_eq!(raw::verify(number, &public, &message, &signature, &mut work), 0));
     }
 }

@@ -3,16 +3,23 @@
  * the sizes of the six sets, and the words of each answer.
  *
  * What holds for every call:
- *   - A part is lent as a pointer and its number of bytes. Parts that are lent to one call must not overlap. A part of 0 bytes
- *     may have any pointer, also NULL. Inputs are not changed.
+ *   - A part is lent as a pointer and its number of bytes. An output or work must not overlap any other part that is lent to the
+ *     same call; inputs may overlap. A part of 0 bytes may have any pointer, also NULL. Inputs are not changed.
  *   - The answer is a number of the table below. Where several refusals apply, the lowest number is given; a call tests only
- *     what it has.
+ *     what it has. envelope_read alone has an order of its own.
  *   - Answers 1 to 7, 10 and 11 change nothing. After 0, 8 and 9 the first BISCUIT_WORK_SIZE bytes of work are zero and its
  *     later bytes are as they were. After 8 and 9 no output has changed. After 0 an output holds the result first, and its later
  *     bytes are as they were.
  *   - What work held before does not matter, so one buffer serves many calls, one after another.
- *   - Nothing is allocated, nothing is kept from call to call, and no random number is drawn.
- * The promises are proved of the library's calls (crates/desk). Sizes and words in this file are held to them by tests/c/run.
+ *   - Nothing is allocated, nothing is kept from call to call, and no random number is drawn. Calls may run at the same time, each
+ *     with its own work and outputs.
+ *   - The stack that a call takes: some 3 KB for biscuit_make_keys and biscuit_public_half, 40 KB for biscuit_sign, 35 KB for
+ *     biscuit_verify, under 1 KB for an envelope. What was on it is not all cleared.
+ *   - The four high bits behind an odd last element of a key mean nothing (the last byte of public keys of sets 1, 2, 5 and 6, and
+ *     of secret keys of sets 3 and 4): the library writes them as 0 and ignores them in a key that it is lent. A secret key's bytes
+ *     go into its signatures as given, these bits included.
+ * The promises are proved of the library's calls (crates/desk). Sizes and numbers in this file are held to the calls by tests/c/run,
+ * its words to those of the Rust crate by bindings/rust/tests/desk.rs.
  */
 #ifndef BISCUIT_H
 #define BISCUIT_H
@@ -85,7 +92,11 @@ enum biscuit_answer {
 #define BISCUIT_256F_PUBLIC_KEY_SIZE 93u
 #define BISCUIT_256F_SIGNATURE_SIZE 27348u
 
-/* The same by the set's number: all 0 where there is no such set. Random bytes for signing number 0 or twice a seed. */
+/*
+ * The same by the set's number: all 0 where there is no such set. S, in words, is the bytes of a seed: 16, 24 or 32. Random bytes
+ * for signing number 0 or 2S. The s and f sets of one strength have keys of the same form, so a key made for 128f also works as one
+ * of 128s: what a key was made for is for the caller to know.
+ */
 struct biscuit_sizes { size_t seed, secret_key, public_key, signature; };
 
 static inline struct biscuit_sizes biscuit_sizes_of(size_t set)
@@ -100,6 +111,23 @@ static inline struct biscuit_sizes biscuit_sizes_of(size_t set)
         {BISCUIT_256F_SEED_SIZE, BISCUIT_256F_SECRET_KEY_SIZE, BISCUIT_256F_PUBLIC_KEY_SIZE, BISCUIT_256F_SIGNATURE_SIZE}
     };
     return sizes[set <= BISCUIT_256F ? set : 0];
+}
+
+/* The bytes of an envelope: 0 where there is no such set, or the message is over BISCUIT_MESSAGE_LIMIT. */
+static inline size_t biscuit_envelope_size(size_t set, size_t message_size)
+{
+    struct biscuit_sizes sizes = biscuit_sizes_of(set);
+    if (sizes.seed == 0 || message_size > BISCUIT_MESSAGE_LIMIT)
+        return 0;
+    return BISCUIT_HEADER_SIZE + sizes.public_key + sizes.signature + message_size;
+}
+
+/* Writes zeros that a compiler may not leave out, as over a secret key that is not needed any more. */
+static inline void biscuit_clear(uint8_t *bytes, size_t size)
+{
+    volatile uint8_t *place = bytes;
+    while (size-- > 0)
+        *place++ = 0;
 }
 
 /* The words of an answer. */
@@ -123,7 +151,9 @@ static inline const char *biscuit_words(unsigned answer)
 }
 
 /*
- * Makes a key pair from two seeds of S bytes: from the same seeds always the same pair.
+ * Makes a key pair from two seeds of S bytes: from the same seeds always the same pair. circuit_seed stands in both keys and so is
+ * public; secret_seed is S bytes that nobody can foretell. Never lend the same bytes for both: the public key would show the secret
+ * seed.
  *   1  set outside 1 to 6
  *   2  a seed isn't S bytes
  *   6  secret_key or public_key has less room than its key
@@ -204,7 +234,9 @@ uint8_t envelope_write(size_t set,
                        uint8_t *envelope, size_t envelope_size);
 
 /*
- * Reads a clip envelope. It tests in an order of its own, and whether the signature is genuine is for biscuit_verify to say.
+ * Reads a clip envelope. It tests in an order of its own, and whether the signature is genuine is for biscuit_verify to say. An
+ * envelope carries its own key: that its signature is accepted under it says nothing of whose key it is. Verify under a key that you
+ * trust.
  *   10  under 3 bytes
  *   11  version isn't 1
  *   1   set outside 1 to 6

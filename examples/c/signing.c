@@ -6,7 +6,6 @@
 #include "biscuit.h"
 
 #include <stdio.h>
-#include <string.h>
 
 static void say(const char *what, uint8_t answer)
 {
@@ -15,7 +14,8 @@ static void say(const char *what, uint8_t answer)
 
 int main(void)
 {
-    /* In a real program the secret seed is S bytes that nobody can foretell, as from /dev/urandom. Here it is fixed, so that the example always prints the same. */
+    /* The circuit seed is public. In a real program the secret seed is S bytes that nobody can foretell, as from /dev/urandom. Here it is fixed, so that the
+       example always prints the same. */
     static const uint8_t circuit_seed[BISCUIT_128F_SEED_SIZE] = {1}, secret_seed[BISCUIT_128F_SEED_SIZE] = {2};
     static const uint8_t message[] = "Good evening.";
     static uint8_t secret_key[BISCUIT_128F_SECRET_KEY_SIZE], public_key[BISCUIT_128F_PUBLIC_KEY_SIZE];
@@ -31,6 +31,7 @@ int main(void)
 
     /* No random bytes are lent, so the same key and message always give the same signature. */
     answer = biscuit_sign(BISCUIT_128F, secret_key, sizeof secret_key, message, message_size, NULL, 0, signature, sizeof signature, work, sizeof work);
+    biscuit_clear(secret_key, sizeof secret_key);
     say("sign", answer);
     if (answer != BISCUIT_DONE)
         return 1;
@@ -44,7 +45,5 @@ int main(void)
     say("verify without the full stop", answer);
     answer = biscuit_verify(BISCUIT_128S, public_key, sizeof public_key, message, message_size, signature, sizeof signature, work, sizeof work);
     say("verify as another set", answer);
-
-    memset(secret_key, 0, sizeof secret_key);
     return 0;
 }

@@ -23,6 +23,7 @@ static void write_one(size_t set, struct biscuit_sizes size, unsigned lowest, in
     answer = envelope_write(given, public_key.bytes, public_key.size, signature.bytes, signature.size, message.bytes, message.size, envelope.bytes, envelope.size);
     expect_answer(answer, lowest);
     expect_output(answer, &envelope, right, whole);
+    expect(answer != BISCUIT_DONE || whole == biscuit_envelope_size(set, message.size), "the envelope's size is another", answer);
     expect(kept(&public_key, 0) && kept(&signature, 0) && kept(&message, 0), "an input changed", answer);
     free(right);
     give_back(&public_key); give_back(&signature); give_back(&message); give_back(&envelope);
@@ -55,14 +56,14 @@ static void read_one(unsigned first, unsigned second, unsigned third, size_t tot
 
 static void writing(size_t set)
 {
-    static const unsigned refusals[] = {3, 4, 5, 6};
+    static const unsigned refusals[] = {BISCUIT_MESSAGE_TOO_LONG, BISCUIT_KEY_LENGTH, BISCUIT_SIGNATURE_LENGTH, BISCUIT_OUTPUT_TOO_SHORT};
     static const size_t no_sets[] = {0, 7, 8, 16, 17, 257, (size_t)-1};
     struct biscuit_sizes size = biscuit_sizes_of(set);
     size_t i;
     name_case(set, "write");
     for (i = 0; i < sizeof no_sets / sizeof *no_sets; i++) {
-        write_one(set, size, 1, 1, no_sets[i]);
-        write_one(set, size, 1, 0, no_sets[i]);
+        write_one(set, size, BISCUIT_NO_SUCH_SET, 1, no_sets[i]);
+        write_one(set, size, BISCUIT_NO_SUCH_SET, 0, no_sets[i]);
     }
     for (i = 0; i < sizeof refusals / sizeof *refusals; i++) {
         write_one(set, size, refusals[i], 1, set);

@@ -8,7 +8,8 @@
 struct genuine {
     size_t set;
     struct biscuit_sizes size;
-    uint8_t seed[BISCUIT_LARGEST_SEED_SIZE], secret_key[BISCUIT_LARGEST_SECRET_KEY_SIZE], public_key[BISCUIT_LARGEST_PUBLIC_KEY_SIZE];
+    uint8_t circuit_seed[BISCUIT_LARGEST_SEED_SIZE], secret_seed[BISCUIT_LARGEST_SEED_SIZE];
+    uint8_t secret_key[BISCUIT_LARGEST_SECRET_KEY_SIZE], public_key[BISCUIT_LARGEST_PUBLIC_KEY_SIZE];
     uint8_t signature[BISCUIT_LARGEST_SIGNATURE_SIZE];
 };
 
@@ -23,8 +24,8 @@ static size_t short_of(size_t size, int is_short)
 static void make_keys(const struct genuine *g, unsigned lowest, int alone, size_t set)
 {
     int two = wrong(2, lowest, alone), six = wrong(6, lowest, alone);
-    struct part circuit = lend(g->seed, g->size.seed, g->size.seed - (size_t)(two && alone));
-    struct part secret = lend(g->seed, g->size.seed, g->size.seed + (size_t)(two && !alone));
+    struct part circuit = lend(g->circuit_seed, g->size.seed, g->size.seed - (size_t)(two && alone));
+    struct part secret = lend(g->secret_seed, g->size.seed, g->size.seed + (size_t)(two && !alone));
     struct part secret_key = lend(NULL, 0, short_of(g->size.secret_key, six && alone));
     struct part public_key = lend(NULL, 0, short_of(g->size.public_key, six && !alone));
     struct part work = lend(NULL, 0, short_of(BISCUIT_WORK_SIZE, wrong(7, lowest, alone)));
@@ -95,8 +96,8 @@ static void every_case(const struct genuine *g, const char *name, void (*call)(c
     size_t i;
     name_case(g->set, name);
     for (i = 0; i < sizeof NO_SETS / sizeof *NO_SETS; i++) {
-        call(g, 1, 1, NO_SETS[i]);
-        call(g, 1, 0, NO_SETS[i]);
+        call(g, BISCUIT_NO_SUCH_SET, 1, NO_SETS[i]);
+        call(g, BISCUIT_NO_SUCH_SET, 0, NO_SETS[i]);
     }
     for (; *refusals; refusals++) {
         call(g, *refusals, 1, g->set);
@@ -108,11 +109,12 @@ static void every_case(const struct genuine *g, const char *name, void (*call)(c
 /* Makes what the cases start from, in parts of exactly the right size. */
 static void make_genuine(struct genuine *g, size_t set, uint8_t *work)
 {
-    memset(g->seed, (int)set, sizeof g->seed);
+    memset(g->circuit_seed, (int)set, sizeof g->circuit_seed);
+    memset(g->secret_seed, (int)set + 100, sizeof g->secret_seed);
     g->set = set;
     g->size = biscuit_sizes_of(set);
     name_case(set, "what the cases start from");
-    expect_answer(biscuit_make_keys(set, g->seed, g->size.seed, g->seed, g->size.seed, g->secret_key, g->size.secret_key,
+    expect_answer(biscuit_make_keys(set, g->circuit_seed, g->size.seed, g->secret_seed, g->size.seed, g->secret_key, g->size.secret_key,
                                     g->public_key, g->size.public_key, work, BISCUIT_WORK_SIZE), 0);
     expect_answer(biscuit_sign(set, g->secret_key, g->size.secret_key, MESSAGE, sizeof MESSAGE, NULL, 0, g->signature, g->size.signature,
                                work, BISCUIT_WORK_SIZE), 0);
@@ -135,6 +137,66 @@ static void messages(const struct genuine *g, uint8_t *work)
     give_back(&random); give_back(&signature); give_back(&longest);
 }
 
+/* The four bits behind an odd last element of a key are written as 0, and read as if they were; a secret key's go into its signatures. */
+static void unused_bits(const struct genuine *g, uint8_t *work)
+{
+    int public_odd = g->set <= 2 || g->set >= 5;
+    struct part public_key = lend(g->public_key, g->size.public_key, g->size.public_key);
+    struct part secret_key = lend(g->secret_key, g->size.secret_key, g->size.secret_key);
+    struct part signature = lend(NULL, 0, g->size.signature);
+    uint8_t *last = public_odd ? public_key.bytes + public_key.size - 1 : secret_key.bytes + secret_key.size - 1;
+    name_case(g->set, "unused bits");
+    expect(*last >> 4 == 0, "unused bits are written as others than 0", *last);
+    *last |= 0xf0;
+    expect_answer(biscuit_sign(g->set, secret_key.bytes, secret_key.size, MESSAGE, sizeof MESSAGE, NULL, 0, signature.bytes, signature.size,
+                               work, BISCUIT_WORK_SIZE), 0);
+    expect((memcmp(signature.bytes, g->signature, signature.size) == 0) == public_odd, "the secret key's bytes are not signed as given", g->set);
+    expect_answer(biscuit_verify(g->set, public_key.bytes, public_key.size, MESSAGE, sizeof MESSAGE, signature.bytes, signature.size,
+                                 work, BISCUIT_WORK_SIZE), 0);
+    expect_answer(biscuit_public_half(g->set, secret_key.bytes, secret_key.size, public_key.bytes, public_key.size, work, BISCUIT_WORK_SIZE), 0);
+    expect(memcmp(public_key.bytes, g->public_key, public_key.size) == 0, "another public half", g->set);
+    give_back(&public_key); give_back(&secret_key); give_back(&signature);
+}
+
+/* The keys of a set work in the other set of its strength too. */
+static void other_set(const struct genuine *g, uint8_t *work)
+{
+    size_t other = g->set % 2 ? g->set + 1 : g->set - 1;
+    struct part signature = lend(NULL, 0, biscuit_sizes_of(other).signature);
+    name_case(g->set, "keys in the other set of the strength");
+    expect_answer(biscuit_sign(other, g->secret_key, g->size.secret_key, MESSAGE, sizeof MESSAGE, NULL, 0, signature.bytes, signature.size,
+                               work, BISCUIT_WORK_SIZE), 0);
+    expect_answer(biscuit_verify(other, g->public_key, g->size.public_key, MESSAGE, sizeof MESSAGE, signature.bytes, signature.size,
+                                 work, BISCUIT_WORK_SIZE), 0);
+    give_back(&signature);
+}
+
+/* What the header works out by itself: room for every set, the sizes of no set and of no envelope, and clearing. */
+static void header(void)
+{
+    struct biscuit_sizes largest = biscuit_sizes_of(BISCUIT_256F);
+    struct part cleared = lend(NULL, 0, 9);
+    size_t set, i, zeros = 0;
+    name_case(0, "header");
+    for (set = BISCUIT_128S; set <= BISCUIT_256F; set++) {
+        struct biscuit_sizes size = biscuit_sizes_of(set);
+        expect(size.seed <= BISCUIT_LARGEST_SEED_SIZE && size.secret_key <= BISCUIT_LARGEST_SECRET_KEY_SIZE && size.public_key <= BISCUIT_LARGEST_PUBLIC_KEY_SIZE
+               && size.signature <= BISCUIT_LARGEST_SIGNATURE_SIZE, "larger than the largest", set);
+    }
+    expect(largest.seed == BISCUIT_LARGEST_SEED_SIZE && largest.secret_key == BISCUIT_LARGEST_SECRET_KEY_SIZE && largest.public_key == BISCUIT_LARGEST_PUBLIC_KEY_SIZE
+           && largest.signature == BISCUIT_LARGEST_SIGNATURE_SIZE, "the largest is another", 0);
+    expect(biscuit_envelope_size(BISCUIT_256F, BISCUIT_MESSAGE_LIMIT) == BISCUIT_LARGEST_ENVELOPE_SIZE, "the largest envelope is another", 0);
+    expect(biscuit_sizes_of(0).seed == 0 && biscuit_sizes_of(7).signature == 0 && biscuit_sizes_of((size_t)-1).seed == 0, "sizes of no set", 0);
+    expect(biscuit_envelope_size(0, 1) == 0 && biscuit_envelope_size(7, 1) == 0, "an envelope of no set", 0);
+    expect(biscuit_envelope_size(BISCUIT_128S, BISCUIT_MESSAGE_LIMIT + 1) == 0 && biscuit_envelope_size(BISCUIT_128S, (size_t)-1) == 0, "an envelope that is too long", 0);
+    biscuit_clear(cleared.bytes, 7);
+    for (i = 0; i < 7; i++)
+        zeros += cleared.bytes[i] == 0;
+    expect(zeros == 7 && kept(&cleared, 7), "other bytes are cleared", zeros);
+    cases += 12;
+    give_back(&cleared);
+}
+
 /* SHAKE256 of no bytes, as published (the first 32 bytes), and output of no bytes. */
 static void shake256(void)
 {
@@ -149,8 +211,11 @@ static void shake256(void)
 
 int main(void)
 {
-    static const unsigned keys_refuse[] = {2, 6, 7, 0}, half_refuses[] = {4, 6, 7, 8, 0}, sign_refuses[] = {2, 3, 4, 6, 7, 8, 0};
-    static const unsigned verify_refuses[] = {3, 4, 5, 7, 9, 0};
+    static const unsigned keys_refuse[] = {BISCUIT_SEED_OR_RANDOM_LENGTH, BISCUIT_OUTPUT_TOO_SHORT, BISCUIT_WORK_TOO_SHORT, 0};
+    static const unsigned half_refuses[] = {BISCUIT_KEY_LENGTH, BISCUIT_OUTPUT_TOO_SHORT, BISCUIT_WORK_TOO_SHORT, BISCUIT_KEY_NOT_CONSISTENT, 0};
+    static const unsigned sign_refuses[] = {BISCUIT_SEED_OR_RANDOM_LENGTH, BISCUIT_MESSAGE_TOO_LONG, BISCUIT_KEY_LENGTH, BISCUIT_OUTPUT_TOO_SHORT,
+                                            BISCUIT_WORK_TOO_SHORT, BISCUIT_KEY_NOT_CONSISTENT, 0};
+    static const unsigned verify_refuses[] = {BISCUIT_MESSAGE_TOO_LONG, BISCUIT_KEY_LENGTH, BISCUIT_SIGNATURE_LENGTH, BISCUIT_WORK_TOO_SHORT, BISCUIT_NOT_ACCEPTED, 0};
     static struct genuine g;
     uint8_t *work = (uint8_t *)room(BISCUIT_WORK_SIZE);
     size_t set;
@@ -162,11 +227,13 @@ int main(void)
         every_case(&g, "sign", sign, sign_refuses);
         every_case(&g, "verify", verify, verify_refuses);
         messages(&g, work);
+        unused_bits(&g, work);
+        other_set(&g, work);
         printf("set %lu: %u cases\n", (unsigned long)set, cases - before);
     }
+    header();
     shake256();
     free(work);
-    expect(biscuit_sizes_of(0).seed == 0 && biscuit_sizes_of(7).signature == 0, "sizes of no set", 0);
     printf("%u cases, %u failures\n", cases, failures);
     return failures != 0;
 }

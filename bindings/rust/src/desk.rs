@@ -6,7 +6,7 @@ use crate::{raw, Envelope, PublicKey, Refusal, SecretKey, Set, Signature};
 /// The bytes of work that a call wants.
 const WORK: usize = 65_536;
 
-/// The desk owns the work buffer of 65,536 bytes and uses it again for each call. Every call leaves it all zero.
+/// The desk owns the work buffer of 65,536 bytes and uses it again for each call. It is all zero between the calls. Threads have a desk each.
 ///
 /// ```
 /// use biscuit::{Desk, Refusal, Set};
@@ -30,7 +30,8 @@ impl Desk {
         Desk { work: vec![0; WORK].into_boxed_slice() }
     }
 
-    /// Makes a key pair from two seeds of [`Set::seed_len`] bytes: from the same seeds always the same pair. Refuses 2.
+    /// Makes a key pair from two seeds of [`Set::seed_len`] bytes: from the same seeds always the same pair. The circuit seed stands in both keys and so is public;
+    /// the secret seed is bytes that nobody can foretell. Never give the same bytes for both: the public key would show the secret seed. Refuses 2.
     pub fn make_keys(&mut self, set: Set, circuit_seed: &[u8], secret_seed: &[u8]) -> Result<(SecretKey, PublicKey), Refusal> {
         let (mut secret, mut public) = (SecretKey::empty(set), PublicKey::empty(set));
         answer(raw::make_keys(set.number(), circuit_seed, secret_seed, secret.bytes_mut(), public.bytes_mut(), &mut self.work))?;
@@ -103,7 +104,20 @@ impl Desk {
         Envelope::write(&self.public_half(secret)?, &signature, message)
     }
 
-    /// Reads an envelope and verifies it under the key that it carries. Whose key that is, the caller compares. Refuses what reading refuses, and 9.
+    /// Reads an envelope and verifies it under the key that it carries. Anybody can make a key and sign with it: whose key that is, the caller finds out with
+    /// [`Desk::verify`] under a key that it knows; bytes may differ in bits that mean nothing. Refuses what reading refuses, and 9.
+    ///
+    /// ```
+    /// use biscuit::{Desk, Refusal, Set};
+    ///
+    /// let mut desk = Desk::new();
+    /// let (_, known) = desk.make_keys(Set::Biscuit128f, &[1; 16], &[2; 16])?;
+    /// let (stranger, _) = desk.make_keys(Set::Biscuit128f, &[1; 16], &[3; 16])?;
+    /// let envelope = desk.sign_envelope(&stranger, b"take 3", None)?;
+    /// let genuine = desk.check(&envelope)?;
+    /// assert_eq!(desk.verify(&known, genuine.message(), &genuine.signature()), Err(Refusal::NotAccepted));
+    /// # Ok::<(), Refusal>(())
+    /// ```
     pub fn check<'a>(&mut self, envelope: &'a [u8]) -> Result<Envelope<'a>, Refusal> {
         let parts = Envelope::read(envelope)?;
         self.verify_bytes(parts.set(), parts.public_key_bytes(), parts.message(), parts.signature_bytes())?;

@@ -11,7 +11,7 @@ pub struct SecretKey {
     bytes: Box<[u8]>,
 }
 
-/// A public key of a set. Two of them are equal where their bytes are.
+/// A public key of a set. Two of them are equal where set and bytes are.
 #[derive(Clone, Debug, PartialEq, Eq, Hash)]
 pub struct PublicKey {
     set: Set,

@@ -1,7 +1,8 @@
 //! A safe crate over the static library of the proved signing desk: Biscuit signatures and the clip envelope.
 //!
-//! A [`Set`] names the parameters. [`SecretKey`], [`PublicKey`] and [`Signature`] know their set and always have its length, so a call can be refused for
-//! what its bytes hold, and hardly for a length. A [`Desk`] owns the work buffer and makes the calls. A [`Refusal`] has the desk's number and words.
+//! A [`Set`] names the parameters. [`SecretKey`], [`PublicKey`] and [`Signature`] know their set and always have its length, so a key never has
+//! a wrong length; what can still be refused for a length are seeds and random bytes (2), a message (3), and a signature of another set (5). A [`Desk`] owns the
+//! work buffer and makes the calls. A [`Refusal`] has the desk's number and words.
 //!
 //! ```
 //! use biscuit::{Desk, Refusal, Set};
@@ -16,6 +17,11 @@
 //!
 //! What is proved is the library's calls, which [`raw`] shows as they are; this crate is ordinary Rust over them. No random number is drawn: seeds and random
 //! bytes come from the caller.
+//!
+//! In your own crate: `biscuit = { path = ".." }`, with the path of this folder. It links `libdesk.a`, which `bench/archive desk` makes in `target/bench`;
+//! `DESK_ARCHIVE`, a whole path, names the folder where it lies elsewhere.
+
+#![warn(missing_docs)]
 
 mod desk;
 mod envelope;

@@ -47,8 +47,11 @@ extern "C" {
 #[derive(Clone, Copy, Debug, PartialEq, Eq)]
 #[repr(C)]
 pub struct Header {
+    /// The version: 1.
     pub version: usize,
+    /// The set, from 1 to 6.
     pub set: usize,
+    /// The bytes of the message.
     pub length: usize,
 }
 
@@ -56,14 +59,19 @@ pub struct Header {
 #[derive(Clone, Copy, Debug, PartialEq, Eq)]
 #[repr(C)]
 pub struct Places {
+    /// Where the public key begins.
     pub key: usize,
+    /// Where it ends and the signature begins.
     pub signature: usize,
+    /// Where that ends and the message begins.
     pub message: usize,
+    /// Where the message ends.
     pub end: usize,
 }
 
 /// Makes a key pair from two seeds.
 pub fn make_keys(set: usize, circuit_seed: &[u8], secret_seed: &[u8], secret_key: &mut [u8], public_key: &mut [u8], work: &mut [u8]) -> u8 {
+    // SAFETY: every pointer comes from a slice with its length, and what is written is borrowed mutably, so nothing overlaps.
     unsafe {
         biscuit_make_keys(
             set,
@@ -78,6 +86,7 @@ pub fn make_keys(set: usize, circuit_seed: &[u8], secret_seed: &[u8], secret_key
 
 /// Gives the public half of a secret key.
 pub fn public_half(set: usize, secret_key: &[u8], public_key: &mut [u8], work: &mut [u8]) -> u8 {
+    // SAFETY: every pointer comes from a slice with its length, and what is written is borrowed mutably, so nothing overlaps.
     unsafe {
         biscuit_public_half(
             set,
@@ -90,6 +99,7 @@ pub fn public_half(set: usize, secret_key: &[u8], public_key: &mut [u8], work: &
 
 /// Signs a message.
 pub fn sign(set: usize, secret_key: &[u8], message: &[u8], random: &[u8], signature: &mut [u8], work: &mut [u8]) -> u8 {
+    // SAFETY: every pointer comes from a slice with its length, and what is written is borrowed mutably, so nothing overlaps.
     unsafe {
         biscuit_sign(
             set,
@@ -104,6 +114,7 @@ pub fn sign(set: usize, secret_key: &[u8], message: &[u8], random: &[u8], signat
 
 /// Verifies a signature.
 pub fn verify(set: usize, public_key: &[u8], message: &[u8], signature: &[u8], work: &mut [u8]) -> u8 {
+    // SAFETY: every pointer comes from a slice with its length, and what is written is borrowed mutably, so nothing overlaps.
     unsafe {
         biscuit_verify(
             set,
@@ -117,6 +128,7 @@ pub fn verify(set: usize, public_key: &[u8], message: &[u8], signature: &[u8], w
 
 /// Writes an envelope.
 pub fn write_envelope(set: usize, public_key: &[u8], signature: &[u8], message: &[u8], envelope: &mut [u8]) -> u8 {
+    // SAFETY: every pointer comes from a slice with its length, and what is written is borrowed mutably, so nothing overlaps.
     unsafe {
         envelope_write(
             set,
@@ -130,15 +142,18 @@ pub fn write_envelope(set: usize, public_key: &[u8], signature: &[u8], message: 
 
 /// Reads an envelope.
 pub fn read_envelope(envelope: &[u8]) -> u8 {
+    // SAFETY: the pointer comes from a slice with its length, and nothing is written.
     unsafe { envelope_read(envelope.as_ptr(), envelope.len()) }
 }
 
 /// Gives the header of an envelope.
 pub fn header_of_envelope(envelope: &[u8]) -> Header {
+    // SAFETY: the pointer comes from a slice with its length, and nothing is written.
     unsafe { envelope_header(envelope.as_ptr(), envelope.len()) }
 }
 
 /// Gives the places of an envelope's parts.
 pub fn places_of_envelope(envelope: &[u8]) -> Places {
+    // SAFETY: the pointer comes from a slice with its length, and nothing is written.
     unsafe { envelope_places(envelope.as_ptr(), envelope.len()) }
 }

@@ -15,16 +15,27 @@ use std::fmt;
 #[derive(Clone, Copy, Debug, PartialEq, Eq, PartialOrd, Ord, Hash)]
 #[non_exhaustive]
 pub enum Refusal {
+    /// The set is outside 1 to 6.
     NoSuchSet = 1,
+    /// A key seed isn't S bytes, or random bytes are neither 0 nor 2S.
     SeedOrRandomLength = 2,
+    /// The message is over 32,768 bytes.
     MessageTooLong = 3,
+    /// The length of a key is wrong.
     KeyLength = 4,
+    /// The length of a signature is wrong.
     SignatureLength = 5,
+    /// An output is shorter than the result. Only the calls of [`raw`](crate::raw) give it.
     OutputTooShort = 6,
+    /// The work buffer is under 65,536 bytes. Only the calls of [`raw`](crate::raw) give it.
     WorkTooShort = 7,
+    /// The secret key is not consistent: its own circuit seed and s give other values than it holds.
     KeyNotConsistent = 8,
+    /// Verification doesn't accept the signature.
     NotAccepted = 9,
+    /// The envelope is under 3 bytes, or its total length is wrong.
     EnvelopeLength = 10,
+    /// The envelope's version isn't 1.
     EnvelopeVersion = 11,
 }
 

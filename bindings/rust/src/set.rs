@@ -7,7 +7,8 @@ use std::str::FromStr;
 /// The longest message, in bytes.
 pub const MESSAGE_LIMIT: usize = 32_768;
 
-/// One of the six sets. `s` has short signatures, `f` is fast.
+/// One of the six sets. `s` has short signatures, `f` is fast. Both of one strength have keys of the same form, so the bytes of a key made for 128f also work as
+/// one of 128s.
 ///
 /// ```
 /// use biscuit::{Refusal, Set};
@@ -18,11 +19,17 @@ pub const MESSAGE_LIMIT: usize = 32_768;
 /// ```
 #[derive(Clone, Copy, Debug, PartialEq, Eq, PartialOrd, Ord, Hash)]
 pub enum Set {
+    /// Set 1, 128s: 128 bits, short signatures.
     Biscuit128s = 1,
+    /// Set 2, 128f: 128 bits, fast.
     Biscuit128f = 2,
+    /// Set 3, 192s: 192 bits, short signatures.
     Biscuit192s = 3,
+    /// Set 4, 192f: 192 bits, fast.
     Biscuit192f = 4,
+    /// Set 5, 256s: 256 bits, short signatures.
     Biscuit256s = 5,
+    /// Set 6, 256f: 256 bits, fast.
     Biscuit256f = 6,
 }
 

@@ -1,6 +1,6 @@
 //! The commands: each reads its files, asks the proved library, and writes or prints what it answers.
 
-use crate::files::{at_most, drawn, NewFile, OPEN, SECRET};
+use crate::files::{at_most, drawn, shown, NewFile, OPEN, SECRET};
 use crate::{Ended, Failure};
 use biscuit::{clear, Desk, Envelope, PublicKey, Refusal, SecretKey, Set, MESSAGE_LIMIT};
 use std::ffi::{OsStr, OsString};
@@ -10,56 +10,73 @@ use std::path::Path;
 /// The most that is read of an envelope: whatever is longer is longer than any legal one.
 const ENVELOPE_LIMIT: usize = 65_536;
 
+/// Prints how to use it.
+pub fn help(usage: &str) -> Ended {
+    match std::io::stdout().write_all(usage.as_bytes()) {
+        Ok(()) => Ok(true),
+        Err(error) => Err(Failure::Said(format!("standard output: {error}"))),
+    }
+}
+
 /// Makes a key pair from two seeds.
 pub fn keys(set: &OsStr, circuit_seed: &Path, secret_seed: &Path, secret_key: &Path, public_key: &Path) -> Ended {
     let set = named(set)?;
     let circuit = drawn(circuit_seed, set.seed_len())?;
     let mut secret = drawn(secret_seed, set.seed_len())?;
-    let sizes = [(circuit_seed, circuit.len()), (secret_seed, secret.len())];
+    let sizes = format!("{}, {}", read(circuit_seed, &circuit), read(secret_seed, &secret));
+    let same = circuit == secret;
     let made = Desk::new().make_keys(set, &circuit, &secret);
     clear(&mut secret);
-    let (secret, public) = made.map_err(|refusal| refused(refusal, set, &sizes))?;
+    let (secret, public) = made.map_err(|refusal| refused(refusal, format!("{sizes}; S is {} in set {set}", set.seed_len())))?;
+    if same {
+        return Err(Failure::Said(format!("{}: holds the same bytes as the circuit seed, which the public key shows", shown(secret_seed))));
+    }
     let mut secret_file = NewFile::create(secret_key, SECRET)?;
     let mut public_file = NewFile::create(public_key, OPEN)?;
     secret_file.write(secret.as_bytes())?;
     public_file.write(public.as_bytes())?;
     secret_file.keep();
     public_file.keep();
-    print(format!("{}, {}: written", secret_key.display(), public_key.display()))
+    print(format!("{}, {}: written", shown(secret_key), shown(public_key)))
 }
 
 /// Gives the public half of a secret key.
 pub fn public(set: &OsStr, secret_key: &Path, public_key: &Path) -> Ended {
     let set = named(set)?;
-    let secret = secret_key_of(set, secret_key)?;
-    let public = Desk::new().public_half(&secret).map_err(|refusal| refused(refusal, set, &[]))?;
+    let secret = secret_key_of(set, secret_key, &mut at_most(secret_key, set.secret_key_len())?)?;
+    let public = Desk::new().public_half(&secret).map_err(|refusal| refused(refusal, shown(secret_key)))?;
     written(public_key, public.as_bytes())
 }
 
-/// Signs a file into an envelope.
+/// Signs a file into an envelope. Every file is read before any is refused, and the lowest number is said first: random bytes, message, key.
 pub fn sign(set: &OsStr, secret_key: &Path, message: &Path, envelope: &Path, random: Option<&Path>) -> Ended {
     let set = named(set)?;
-    let secret = secret_key_of(set, secret_key)?;
     let content = at_most(message, MESSAGE_LIMIT)?;
-    let drawn = random.map(|random| drawn(random, set.random_len())).transpose()?;
-    let mut sizes = vec![(message, content.len())];
-    sizes.extend(random.zip(drawn.as_ref()).map(|(random, bytes)| (random, bytes.len())));
-    let signed = Desk::new().sign_envelope(&secret, &content, drawn.as_deref());
-    written(envelope, &signed.map_err(|refusal| refused(refusal, set, &sizes))?)
+    let lent = random.map(|random| drawn(random, set.random_len())).transpose()?;
+    let secret = secret_key_of(set, secret_key, &mut at_most(secret_key, set.secret_key_len())?);
+    if let Some((random, bytes)) = random.zip(lent.as_ref()).filter(|(_, bytes)| bytes.len() != set.random_len()) {
+        let wanted = format!("{}; random bytes of set {set} number {}", read(random, bytes), set.random_len());
+        return Err(refused(Refusal::SeedOrRandomLength, wanted));
+    }
+    if content.len() > MESSAGE_LIMIT {
+        return Err(refused(Refusal::MessageTooLong, read(message, &content)));
+    }
+    let signed = Desk::new().sign_envelope(&secret?, &content, lent.as_deref());
+    written(envelope, &signed.map_err(|refusal| refused(refusal, shown(secret_key)))?)
 }
 
 /// Checks envelopes, a line for each.
 pub fn check(key: Option<&Path>, envelopes: &[OsString]) -> Ended {
-    let key = key.map(|key| at_most(key, longest_key())).transpose()?;
+    let key = key.map(Known::read).transpose()?;
     let mut desk = Desk::new();
     let mut well = true;
     for path in envelopes {
         let path = Path::new(path);
         let line = match at_most(path, ENVELOPE_LIMIT) {
             Err(line) => Err(line),
-            Ok(bytes) => match checked(&mut desk, &bytes, key.as_deref()) {
-                Ok(parts) => Ok(format!("{}: genuine {} {}", path.display(), parts.set().number(), parts.message().len())),
-                Err(refusal) => Err(format!("{}: {refusal}", path.display())),
+            Ok(bytes) => match checked(&mut desk, &bytes, key.as_ref()) {
+                Ok(parts) => Ok(format!("{}: genuine {} {}", shown(path), parts.set().number(), parts.message().len())),
+                Err(words) => Err(format!("{}: {words}", shown(path))),
             },
         };
         well &= line.is_ok();
@@ -70,62 +87,80 @@ pub fn check(key: Option<&Path>, envelopes: &[OsString]) -> Ended {
 
 /// Checks an envelope and writes its message.
 pub fn open(key: Option<&Path>, envelope: &Path, message: &Path) -> Ended {
-    let key = key.map(|key| at_most(key, longest_key())).transpose()?;
+    let key = key.map(Known::read).transpose()?;
     let bytes = at_most(envelope, ENVELOPE_LIMIT)?;
-    match checked(&mut Desk::new(), &bytes, key.as_deref()) {
+    match checked(&mut Desk::new(), &bytes, key.as_ref()) {
         Ok(parts) => written(message, parts.message()),
-        Err(refusal) => Err(Failure::Said(format!("{}: {refusal}", envelope.display()))),
+        Err(words) => Err(Failure::Said(format!("{}: {words}", shown(envelope)))),
     }
 }
 
-/// The parts of an envelope that is genuine, under the given key too where there is one.
-fn checked<'a>(desk: &mut Desk, envelope: &'a [u8], key: Option<&[u8]>) -> Result<Envelope<'a>, Refusal> {
-    let parts = desk.check(envelope)?;
-    if let Some(key) = key {
-        let key = PublicKey::from_bytes(parts.set(), key)?;
-        desk.verify(&key, parts.message(), &parts.signature())?;
+/// A public key that the user knows, of whichever sets have keys of its length.
+struct Known<'a> {
+    path: &'a Path,
+    bytes: Vec<u8>,
+}
+
+impl Known<'_> {
+    /// Reads it. A length that no set has is refused before any envelope is looked at.
+    fn read(path: &Path) -> Result<Known<'_>, Failure> {
+        let bytes = at_most(path, Set::Biscuit256f.public_key_len())?;
+        if !Set::ALL.iter().any(|set| set.public_key_len() == bytes.len()) {
+            return Err(refused(Refusal::KeyLength, read(path, &bytes)));
+        }
+        Ok(Known { path, bytes })
+    }
+
+    /// The key as one of the set.
+    fn of(&self, set: Set) -> Result<PublicKey, String> {
+        let wanted = || format!("{}; a public key of set {set} has {}", read(self.path, &self.bytes), set.public_key_len());
+        PublicKey::from_bytes(set, &self.bytes).map_err(|refusal| format!("{refusal} ({})", wanted()))
+    }
+}
+
+/// The parts of an envelope that is genuine, under the known key too where there is one; or the words of the refusal.
+fn checked<'a>(desk: &mut Desk, envelope: &'a [u8], known: Option<&Known>) -> Result<Envelope<'a>, String> {
+    let parts = desk.check(envelope).map_err(|refusal| refusal.to_string())?;
+    if let Some(known) = known {
+        let key = known.of(parts.set())?;
+        desk.verify(&key, parts.message(), &parts.signature()).map_err(|refusal| format!("{refusal} (under {})", shown(known.path)))?;
     }
     Ok(parts)
 }
 
 fn named(set: &OsStr) -> Result<Set, Failure> {
-    let refused = |refusal: Refusal| Failure::Said(format!("{refusal} ({})", set.to_string_lossy()));
-    set.to_str().unwrap_or_default().parse().map_err(refused)
+    set.to_str().unwrap_or_default().parse().map_err(|refusal| refused(refusal, shown(set)))
 }
 
-fn secret_key_of(set: Set, path: &Path) -> Result<SecretKey, Failure> {
-    let mut bytes = at_most(path, set.secret_key_len())?;
-    let key = SecretKey::from_bytes(set, &bytes).map_err(|refusal| refused(refusal, set, &[(path, bytes.len())]));
-    clear(&mut bytes);
+/// A secret key from the bytes that were read, which are cleared.
+fn secret_key_of(set: Set, path: &Path, bytes: &mut [u8]) -> Result<SecretKey, Failure> {
+    let wanted = format!("{}; a secret key of set {set} has {}", read(path, bytes), set.secret_key_len());
+    let key = SecretKey::from_bytes(set, bytes).map_err(|refusal| refused(refusal, wanted));
+    clear(bytes);
     key
 }
 
-fn longest_key() -> usize {
-    Set::Biscuit256f.public_key_len()
+/// How much of a file was read.
+fn read(path: &Path, bytes: &[u8]) -> String {
+    format!("{}: {} bytes read", shown(path), bytes.len())
 }
 
-/// A refusal with the files whose lengths the reader of the line may have to look at.
-fn refused(refusal: Refusal, set: Set, sizes: &[(&Path, usize)]) -> Failure {
-    let wanted = match refusal {
-        Refusal::SeedOrRandomLength => format!("; S is {} in set {set}", set.seed_len()),
-        Refusal::KeyLength => format!("; a secret key of set {set} has {}", set.secret_key_len()),
-        Refusal::MessageTooLong => String::new(),
-        _ => return Failure::Said(refusal.to_string()),
-    };
-    let sizes: Vec<String> = sizes.iter().map(|(path, len)| format!("{}: {len} bytes read", path.display())).collect();
-    Failure::Said(format!("{refusal} ({}{wanted})", sizes.join(", ")))
+/// A refusal with what the reader of the line may have to look at.
+fn refused(refusal: Refusal, what: String) -> Failure {
+    Failure::Said(format!("{refusal} ({what})"))
 }
 
 fn written(path: &Path, bytes: &[u8]) -> Ended {
     let mut file = NewFile::create(path, OPEN)?;
     file.write(bytes)?;
     file.keep();
-    print(format!("{}: written", path.display()))
+    print(format!("{}: written", shown(path)))
 }
 
+/// Prints a line. Where that fails, the line goes into the words, since what it says is done.
 fn print(line: String) -> Ended {
     match writeln!(std::io::stdout(), "{line}") {
         Ok(()) => Ok(true),
-        Err(error) => Err(Failure::Said(format!("standard output: {error}"))),
+        Err(error) => Err(Failure::Said(format!("standard output: {error}; it was to say `{line}`"))),
     }
 }

@@ -1,5 +1,6 @@
-//! Reading inputs no further than they can be legal, and writing outputs that were not there before.
+//! Reading inputs no further than they can be legal, writing outputs that were not there before, and names as they are printed.
 
+use std::ffi::OsStr;
 use std::fs::{remove_file, File, OpenOptions};
 use std::io::{ErrorKind, Read, Write};
 use std::os::unix::fs::{FileTypeExt, OpenOptionsExt};
@@ -8,6 +9,19 @@ use std::path::Path;
 /// Mode of a file that its owner alone may read, and of any other, before the mask of the process.
 pub const SECRET: u32 = 0o600;
 pub const OPEN: u32 = 0o644;
+
+/// A word of the command line as a part of one line: what would end the line, turn it over or steer a terminal is written as an escape.
+pub fn shown<Word: AsRef<OsStr> + ?Sized>(word: &Word) -> String {
+    let mut line = String::new();
+    for letter in word.as_ref().to_string_lossy().chars() {
+        match letter {
+            '\u{2028}'..='\u{202e}' | '\u{2066}'..='\u{2069}' => line.extend(letter.escape_default()),
+            _ if letter.is_control() => line.extend(letter.escape_default()),
+            _ => line.push(letter),
+        }
+    }
+    line
+}
 
 /// The bytes of a file, at most one more than `limit`: whatever is longer is refused all the same.
 pub fn at_most(path: &Path, limit: usize) -> Result<Vec<u8>, String> {
@@ -38,7 +52,7 @@ fn read_up_to(mut file: File, count: usize) -> std::io::Result<Vec<u8>> {
 }
 
 fn unread(path: &Path, error: std::io::Error) -> String {
-    format!("{}: cannot be read: {error}", path.display())
+    format!("{}: cannot be read: {error}", shown(path))
 }
 
 /// A file that was not there before. It is removed again unless it was written whole and kept.
@@ -53,7 +67,7 @@ impl<'a> NewFile<'a> {
     pub fn create(path: &'a Path, mode: u32) -> Result<NewFile<'a>, String> {
         match OpenOptions::new().write(true).create_new(true).mode(mode).open(path) {
             Ok(file) => Ok(NewFile { path, file, kept: false }),
-            Err(error) if error.kind() == ErrorKind::AlreadyExists => Err(format!("{}: is there already, and no file is written over", path.display())),
+            Err(error) if error.kind() == ErrorKind::AlreadyExists => Err(format!("{}: is there already, and no file is written over", shown(path))),
             Err(error) => Err(unwritten(path, error)),
         }
     }
@@ -78,5 +92,5 @@ impl Drop for NewFile<'_> {
 }
 
 fn unwritten(path: &Path, error: std::io::Error) -> String {
-    format!("{}: cannot be written: {error}", path.display())
+    format!("{}: cannot be written: {error}", shown(path))
 }

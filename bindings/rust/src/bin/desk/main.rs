@@ -4,14 +4,15 @@
 mod commands;
 mod files;
 
-use commands::{check, keys, open, public, sign};
+use commands::{check, help, keys, open, public, sign};
 use std::ffi::OsString;
+use std::io::Write;
 use std::process::ExitCode;
 
 const USAGE: &str = "\
 how to use it:
   desk keys SET CIRCUIT_SEED SECRET_SEED SECRET_KEY PUBLIC_KEY
-      makes a key pair from two seeds
+      makes a key pair from two seeds: CIRCUIT_SEED becomes public, SECRET_SEED must stay secret; never give the same bytes for both
   desk public SET SECRET_KEY PUBLIC_KEY
       gives the public half of a secret key
   desk sign SET SECRET_KEY MESSAGE ENVELOPE [RANDOM]
@@ -21,11 +22,13 @@ how to use it:
   desk open [--key PUBLIC_KEY] ENVELOPE MESSAGE
       checks an envelope and writes its message
 
-Every word in capitals but SET is the name of a file.
+Every word in capitals but SET is the name of a file. A file whose name begins with -- is given as ./--name.
 SET is a number or a name: 1 128s, 2 128f, 3 192s, 4 192f, 5 256s, 6 256f.
+The s and f sets of one strength have keys of the same form, so a key made for 128f also works as one of 128s.
 A seed has 16, 24 or 32 bytes, as the name of the set says (128, 192 or 256 bits), and RANDOM twice as many.
 Both are files of exactly that length, or a device such as /dev/urandom, from which that many bytes are read.
 A message has at most 32,768 bytes. No file is ever written over; a secret key is readable by its owner alone.
+A command that is killed while it writes may leave a file that is not whole: remove it before you try again.
 An envelope is genuine when it was signed with the key that it carries. --key says whose key that has to be.
 ";
 
@@ -50,38 +53,45 @@ fn main() -> ExitCode {
     match command(&words) {
         Ok(true) => ExitCode::SUCCESS,
         Ok(false) => ExitCode::from(1),
-        Err(Failure::Said(line)) => {
-            eprintln!("desk: {line}");
-            ExitCode::from(1)
-        }
-        Err(Failure::Usage) => {
-            eprint!("{USAGE}");
-            ExitCode::from(2)
-        }
+        Err(Failure::Said(line)) => ended(1, &format!("desk: {line}\n")),
+        Err(Failure::Usage) => ended(2, USAGE),
     }
+}
+
+/// A status, after the words on standard error. Where these cannot be written either, the status alone tells.
+fn ended(status: u8, words: &str) -> ExitCode {
+    let _ = std::io::stderr().write_all(words.as_bytes());
+    ExitCode::from(status)
 }
 
 fn command(words: &[OsString]) -> Ended {
     let Some((name, rest)) = words.split_first() else {
         return Err(Failure::Usage);
     };
-    match (name.to_str(), rest) {
-        (Some("help" | "--help" | "-h"), []) => {
-            print!("{USAGE}");
-            Ok(true)
-        }
-        (Some("keys"), [set, circuit_seed, secret_seed, secret_key, public_key]) => {
+    let keyed = rest.first().is_some_and(|word| word == "--key");
+    let names = &rest[usize::from(keyed)..];
+    if names.iter().any(is_option) {
+        return Err(Failure::Usage);
+    }
+    match (name.to_str(), keyed, names) {
+        (Some("help" | "--help" | "-h"), false, []) => help(USAGE),
+        (Some("keys"), false, [set, circuit_seed, secret_seed, secret_key, public_key]) => {
             keys(set, circuit_seed.as_ref(), secret_seed.as_ref(), secret_key.as_ref(), public_key.as_ref())
         }
-        (Some("public"), [set, secret_key, public_key]) => public(set, secret_key.as_ref(), public_key.as_ref()),
-        (Some("sign"), [set, secret_key, message, envelope]) => sign(set, secret_key.as_ref(), message.as_ref(), envelope.as_ref(), None),
-        (Some("sign"), [set, secret_key, message, envelope, random]) => {
+        (Some("public"), false, [set, secret_key, public_key]) => public(set, secret_key.as_ref(), public_key.as_ref()),
+        (Some("sign"), false, [set, secret_key, message, envelope]) => sign(set, secret_key.as_ref(), message.as_ref(), envelope.as_ref(), None),
+        (Some("sign"), false, [set, secret_key, message, envelope, random]) => {
             sign(set, secret_key.as_ref(), message.as_ref(), envelope.as_ref(), Some(random.as_ref()))
         }
-        (Some("check"), [option, key, envelopes @ ..]) if option == "--key" && !envelopes.is_empty() => check(Some(key.as_ref()), envelopes),
-        (Some("check"), [first, ..]) if first != "--key" => check(None, rest),
-        (Some("open"), [option, key, envelope, message]) if option == "--key" => open(Some(key.as_ref()), envelope.as_ref(), message.as_ref()),
-        (Some("open"), [envelope, message]) => open(None, envelope.as_ref(), message.as_ref()),
+        (Some("check"), true, [key, envelopes @ ..]) if !envelopes.is_empty() => check(Some(key.as_ref()), envelopes),
+        (Some("check"), false, [_, ..]) => check(None, names),
+        (Some("open"), true, [key, envelope, message]) => open(Some(key.as_ref()), envelope.as_ref(), message.as_ref()),
+        (Some("open"), false, [envelope, message]) => open(None, envelope.as_ref(), message.as_ref()),
         _ => Err(Failure::Usage),
     }
+}
+
+/// Whether a word looks like an option: such a word is never taken for a file.
+fn is_option(word: &OsString) -> bool {
+    word.as_encoded_bytes().starts_with(b"--")
 }
