@@ -3,6 +3,5 @@ pub mod Passing
 pub mod Sizes
 pub mod Turning
 pub mod Values
-pub mod OneAlpha
 pub mod Work
 pub mod OneOutcome

@@ -10,39 +10,31 @@ use lib.Seq.{length-take-le}
 use Rattle.memory.specs.Sections.{pieces}
 use Rattle.memory.proofs.Sections.{length-pieces, getD-pieces}
 use Rattle.field.specs.Vectors.{_!_, _⊕_, total}
-use Rattle.field.proofs.Packing.{length-unpack}
 use Rattle.field.proofs.Vectors.{length-⊕}
 use Rattle.lanes.specs.Lanes.{Holds}
 use Rattle.sets.specs.declared.Params.{Params}
-use Rattle.forms.specs.Room.{affineIn, circuitIn}
+use Rattle.forms.specs.Room.{circuitIn}
 use Rattle.forms.proofs.Sampling.{length-sampleElements}
-use Rattle.forms.proofs.Circuit.{Forms, Equations}
-use Rattle.forms.proofs.Room.{length-rows-in}
+use Rattle.forms.proofs.Circuit.{Equations}
+use Rattle.forms.proofs.Evaluated.{forms-in}
 use Rattle.parties.specs.Parties.{Share, parties, corrected, alphaOf, yOf}
 use Rattle.parties.specs.Repetition.{rawShare}
 use Rattle.parties.proofs.Numbered.{length-parties, getD-parties}
 use Rattle.parties.proofs.Sizes.{length-alphaOf}
 use Rattle.group.specs.declared.Rep.{Rep}
 use Rattle.group.specs.Shares.{valuesLength, deltaS, deltaC, epsilon, target, alphaGiven, paramsIn, shareAt, restOf, HoldsAnswers}
+use Rattle.group.proofs.Shares.{raw-same}
 use Rattle.answers.specs.Answers.{sharesOf}
 use Rattle.answers.specs.Passes.{alphasOf, secondFormsOf, restsOf, InLanes}
 use Rattle.answers.proofs.Absorbing.{Vectors}
 
 -- ---- a circuit in bytes has m equations
 
-forms-in : (n m : ℕ) (bytes : List ℕ) → Forms m (affineIn n m bytes)
-unfolding affineIn
-forms-in n m bytes = record { constants = length-unpack m bytes; rows = length-rows-in n m _ }
-
 pub equations-in : (n m : ℕ) (bytes : List ℕ) → Equations m (circuitIn n m bytes)
 unfolding circuitIn
 equations-in n m bytes = record { A0 = forms-in n m _; A1 = forms-in n m _; A2 = forms-in n m _ }
 
 -- ---- the shares
-
-pub raw-same : (P Q : Params) (salt : List ℕ) (e i : ℕ) (seed : List ℕ) → P .n ≡ Q .n → P .m ≡ Q .m → rawShare P salt e i seed ≡ rawShare Q salt e i seed
-unfolding rawShare
-raw-same P Q salt e i seed en em = rw (en, em)
 
 pub shares-same : (P Q : Params) (rep : Rep) (salt leaves v : List ℕ) → P .n ≡ Q .n → P .m ≡ Q .m → sharesOf P rep salt leaves v ≡ sharesOf Q rep salt leaves v
 unfolding sharesOf
@@ -70,7 +62,7 @@ module _ (rep : Rep) (salt leaves v : List ℕ) where
   unfolding rawShare
   length-raw-c i seed = length-sampleElements _ _ (rep .m)
 
-  pub corrected-a-length : (Δs Δc : List ℕ) (i : ℕ) (p : Share) → length (corrected Δs Δc i p .a) ≡ length (p .a)
+  corrected-a-length : (Δs Δc : List ℕ) (i : ℕ) (p : Share) → length (corrected Δs Δc i p .a) ≡ length (p .a)
   unfolding corrected
   corrected-a-length Δs Δc i p = by (eqb i 1)
     where

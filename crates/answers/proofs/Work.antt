@@ -9,13 +9,12 @@ use lib.Seq.{take-all, take-take, length-take-le}
 use Rattle.memory.specs.Lists.{put}
 use Rattle.memory.proofs.Parts.{length-put, lent-put, mid-put, take-put}
 use Rattle.memory.proofs.Sections.{drop-take}
-use Rattle.memory.proofs.Xors.{length-part}
+use Rattle.memory.proofs.Xors.{length-part, length-sized}
 use Rattle.sponge.specs.declared.Sponge.{Sponge}
 use Rattle.forms.specs.Room.{circuitLength, circuitIn}
 use Rattle.forms.proofs.Room.{affine-size, circuit-three}
 use Rattle.group.specs.declared.Rep.{Rep}
 use Rattle.group.specs.Shares.{shareAt, HoldsAnswers}
-use Rattle.group.proofs.Shares.{part-sized}
 use Rattle.answers.specs.Passes.{circuitOf, leavesOf, roomAt, alphasOf, secondFormsOf, restsOf, HoldsGroup, Turn}
 
 -- ---- the places are small
@@ -87,15 +86,15 @@ module _ (rep : Rep) (work : List ℕ) (a e : ℕ) (ea : a ≡ roomAt rep) (ee :
 -- the part of a group, lent from a and written: b is the same place
 module _ (work : List ℕ) (a size : ℕ) (fits : a + size ≤ length work) (part : List ℕ) (b : ℕ) (eb : a ≡ b) (kept : length part ≡ length (take (a + size - a) (drop a work))) where
   written : take a work ++ (part ++ drop (a + size - a) (drop a work)) ≡ put work a part
-  written = lent-put work a (a + size) part (let s = part-sized work a size fits in omega arith)
+  written = lent-put work a (a + size) part (let s = length-sized work a size fits in omega arith)
 
   part-fits : a + length part ≤ length work
-  part-fits = let s = part-sized work a size fits in omega arith
+  part-fits = let s = length-sized work a size fits in omega arith
 
   pub part-back : take size (drop b (take a work ++ (part ++ drop (a + size - a) (drop a work)))) ≡ part
   part-back =
       ap (λ (l : List ℕ). take size (drop b l)) written
-      ∙ ap₂ (λ (n k : ℕ). take n (drop k (put work a part))) (sym (kept ∙ part-sized work a size fits)) (sym eb)
+      ∙ ap₂ (λ (n k : ℕ). take n (drop k (put work a part))) (sym (kept ∙ length-sized work a size fits)) (sym eb)
       ∙ mid-put work a part part-fits
 
   pub front-back : take b (take a work ++ (part ++ drop (a + size - a) (drop a work))) ≡ take b work

@@ -4,27 +4,19 @@ use group::Rep;
 use sponge::Sponge;
 ghost use mathlib.Core.Path.{_≡_};
 ghost use mathlib.Core.List.{List, flatten};
-ghost use Prim.Native.Nat.{ℕ, suc, _+_, _*_, _≤_, _<_};
+ghost use Prim.Native.Nat.{ℕ, _+_, _*_, _≤_, _<_};
 ghost use lib.ListN.{length, take, drop};
 ghost use Rattle.field.specs.Packing.{Elements, pack};
 ghost use Rattle.sets.specs.declared.Params.{Params};
 ghost use Rattle.sponge.specs.Steps.{absorbed};
 ghost use Rattle.forms.specs.Circuit.{Circuit};
 ghost use Rattle.forms.specs.Room.{circuitLength, circuitIn, HoldsCircuit};
-ghost use Rattle.field.specs.Vectors.{_!_};
-ghost use Rattle.lanes.specs.Lanes.{lane};
-ghost use Rattle.marks.specs.Marks.{EachWord};
-ghost use Rattle.parties.specs.Parties.{corrected, alphaOf};
-ghost use Rattle.parties.specs.Repetition.{rawShare};
-ghost use Rattle.group.specs.Shares.{Sized, valuesLength, deltaS, deltaC, epsilon, shareAt, sampled, TapeStored, HoldsAnswers};
+ghost use Rattle.group.specs.Shares.{Sized, valuesLength, shareAt, HoldsAnswers};
 ghost use Rattle.answers.specs.Answers.{sharesOf, answered};
 ghost use Rattle.answers.specs.Passes.{circuitOf, leavesOf, roomAt, alphasOf, secondFormsOf, restsOf, Packs, InLanes, Turn, Passed, HoldsGroup, Zeros, VWords, VsOf, Folded};
 
 // The most equations that a set has.
 const EQUATIONS: usize = 121;
-
-// The words that hold sixteen tapes.
-const TAPES: usize = 368;
 
 // The second hash with every α and then every v of a repetition absorbed. The work holds the circuit, the leaves, and room for y and z·ε + c of each group.
 pub fn answers(sponge: Sponge, rep: Rep, salt: &[u8], values: &[u8], work: &mut [u8]) -> Sponge
@@ -57,68 +49,6 @@ fn room_at(rep: Rep) -> usize
     ensures { λ r. ⌜ r ≡ roomAt rep ⌝ }
 {
     forms::circuit_len(rep.n, rep.m) + 16 * rep.groups * rep.s
-}
-
-// Algorithm 12, line 27, for one party: the α of party i with this seed, an element to a byte.
-pub fn alpha_of(
-    rep: Rep,
-    salt: &[u8],
-    circuit: &[u8],
-    values: &[u8],
-    i: usize,
-    seed: &[u8],
-    out: &mut [u8],
-)
-    requires { ⌜ (Sized rep) × (rep .hidden ≡ 0) × (0 < i) × (i ≤ 4096) × (length (now salt) ≤ 64) × (length (now circuit) ≡ circuitLength (rep .n) (rep .m)) × (length (now values) ≡ valuesLength rep) × (Elements (now values)) × (length (now seed) ≤ 32) × (length (now out) ≡ rep .m) ⌝ }
-    ensures { λ r. ⌜ ((P : Params) (f : Circuit) → P .n ≡ rep .n → P .m ≡ rep .m → HoldsCircuit (rep .n) (rep .m) f (now (circuit .entry)) → now (out .exit) ≡ alphaOf f (epsilon rep (now (values .entry))) i (corrected (deltaS rep (now (values .entry))) (deltaC rep (now (values .entry))) i (rawShare P (now (salt .entry)) (rep .e) i (now (seed .entry))))) ⌝ }
-{
-    let p = i - 1;
-    let q = p % 16;
-    let mut tapes = [0u64; TAPES];
-    group::one_tape(rep, salt, i, seed, q, &mut tapes);
-    alpha_lane(rep, p / 16, circuit, values, &tapes, q, out);
-}
-
-// The α of the party in lane q of group g, whose tape stands in that lane.
-fn alpha_lane(
-    rep: Rep,
-    g: usize,
-    circuit: &[u8],
-    values: &[u8],
-    tapes: &[u64],
-    q: usize,
-    out: &mut [u8],
-)
-    requires { ⌜ (Sized rep) × (rep .hidden ≡ 0) × (g < 256) × (q < 16) × (length (now circuit) ≡ circuitLength (rep .n) (rep .m)) × (length (now values) ≡ valuesLength rep) × (Elements (now values)) × (length (now tapes) ≡ 368) × (length (now out) ≡ rep .m) ⌝ }
-    ensures { λ r. ⌜ ((tape before : List ℕ) → TapeStored q tape before (now (tapes .entry)) → now (out .exit) ≡ alphaOf (circuitIn (rep .n) (rep .m) (now (circuit .entry))) (epsilon rep (now (values .entry))) (suc (16 * g + q)) (corrected (deltaS rep (now (values .entry))) (deltaC rep (now (values .entry))) (suc (16 * g + q)) (sampled rep tape))) ⌝ }
-{
-    let m = rep.m;
-    let mut x = [0u64; EQUATIONS];
-    let mut y = [0u64; EQUATIONS];
-    let mut z = [0u64; EQUATIONS];
-    group::of_tapes(
-        rep,
-        g,
-        circuit,
-        values,
-        tapes,
-        &mut x[0..m],
-        &mut y[0..m],
-        &mut z[0..m],
-    );
-    lane_into(&x[0..m], q, out);
-}
-
-// Lane q of each word.
-fn lane_into(words: &[u64], q: usize, out: &mut [u8])
-    requires { ⌜ (length (now words) ≡ length (now out)) × (q < 16) ⌝ }
-    ensures { λ r. ⌜ EachWord (λ k x y. y ≡ lane q (now (words .entry) ! k)) (now (out .entry)) (now (out .exit)) ⌝ }
-{
-    let mut k = 0;
-    while k < out.len() {
-        out[k] = ((words[k] >> (4 * q)) % 16) as u8;
-        k += 1;
-    }
 }
 
 // Every α absorbed; the sums over the parties, and y and z·ε + c of each group, are kept.

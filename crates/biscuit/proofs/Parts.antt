@@ -4,25 +4,15 @@ use mathlib.Core.List.{List, [], _++_, append-assoc, append-nil}
 use Prim.Native.Nat.{ℕ, _+_, _-_, _≤_}
 use native.Mathlib.Nat.{sub-zero}
 use native.Mathlib.Omega.{arith}
-use lib.ListN.{length, take, drop, length-append, length-drop}
-use lib.Seq.{take-at, drop-at, take-take, drop-drop, drop-length, length-take-le}
+use lib.ListN.{length, take, drop, length-append}
+use lib.Seq.{take-at, drop-at, take-take, drop-drop, drop-length}
 use Rattle.memory.specs.Lists.{put}
-use Rattle.memory.proofs.Parts.{take-put, drop-put}
+use Rattle.memory.proofs.Parts.{length-lent, length-back, take-put, drop-put}
 use Rattle.memory.proofs.Sections.{drop-take}
 
 -- ---- one part
 
--- as long as it is lent
-pub length-lent : (x : List ℕ) (a e : ℕ) → a ≤ e → e ≤ length x → length (take (e - a) (drop a x)) ≡ e - a
-length-lent x a e h k = length-take-le (e - a) (drop a x) (simp length-drop (omega arith))
-
--- the whole, where the part comes back as long as it was
-pub length-back : (x new : List ℕ) (a e : ℕ) → a ≤ e → e ≤ length x → length new ≡ e - a → length (take a x ++ (new ++ drop (e - a) (drop a x))) ≡ length x
-length-back x new a e h k n =
-    let z = length-take-le a x (omega arith) in
-    simp (length-append, length-drop) (omega arith)
-
--- the same of the first entries
+-- the lengths of the first entries, lent and back
 pub length-first : (x : List ℕ) (e : ℕ) → e ≤ length x → length (take (e - 0) x) ≡ e
 length-first x e h = length-lent x 0 e (omega arith) h ∙ sub-zero e
 

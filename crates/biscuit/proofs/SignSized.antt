@@ -1,13 +1,11 @@
 -- What signing writes has its sizes: every part of a signature that algorithm 12 gives is as long as the layout wants it, and its vectors are of elements.
 -- Assumes nothing.
 use mathlib.Core.Path.{_≡_, ap, _∙_}
-use mathlib.Core.List.{List, [], _∷_, _++_}
+use mathlib.Core.List.{List, [], _++_}
 use Prim.Native.Nat.{ℕ, suc, _+_, _-_, _*_, _^_, _<_}
 use native.Mathlib.Omega.{arith}
 use lib.ListN.{length, getD}
 use lib.Seq.{length-take-le}
-use Rattle.field.specs.Vectors.{_⊕_, _⊙_}
-use Rattle.field.proofs.Vectors.{length-⊕, length-⊙}
 use Rattle.sponge.proofs.Laws.{length-shake256}
 use Rattle.sets.specs.Sets.{S, secretKeyLength}
 use Rattle.sets.specs.declared.Params.{Params}
@@ -18,42 +16,19 @@ use Rattle.tree.proofs.Theorems.{length-getSeeds, length-getPath}
 use Rattle.tree.proofs.Walking.{each-getPath}
 use Rattle.forms.proofs.Sampling.{Index, expandIndex-index}
 use Rattle.forms.proofs.Circuit.{expandCircuit-equations}
-use Rattle.parties.specs.Parties.{Share, secret, mask, helper}
 use Rattle.parties.specs.Repetition as repetition
-use Rattle.parties.proofs.Numbered.{length-parties, getD-parties}
-use Rattle.parties.proofs.Sizes.{AllSized, length-secret-le, length-mask, length-helper-le, each-alpha, length-alphas, length-entry}
-use Rattle.parties.proofs.Corrections.{raws-sized, length-shares, shares-sized}
+use Rattle.parties.proofs.Numbered.{getD-parties}
+use Rattle.parties.proofs.Sizes.{each-alpha, length-alphas, length-entry}
+use Rattle.parties.proofs.Corrections.{length-deltaS, length-deltaC, length-shares, shares-sized}
 use Rattle.parties.proofs.ShareElements.{deltaS-elements, deltaC-elements, shares-elements, alphas-elements}
 use Rattle.biscuit.specs.Keys.{circuit}
 use Rattle.biscuit.specs.Sign.{Signer, f, seeds, coms, deltaS, deltaC, shares, h₁, ε, αs, h₂, hidden, opening, signed, drawn, signerOf, sign}
 use Rattle.biscuit.proofs.Keys.{SizedKey, secretKeyOf-sized}
 use Rattle.biscuit.proofs.Written.{SizedOpening, SizedSignature}
 
--- ---- the corrections of one repetition
+-- ---- the commitments of one repetition
 
 module _ (P : Params) (salt : List ℕ) (e : ℕ) (seeds : List (List ℕ)) where
-  pub length-deltaS : (s : List ℕ) → length s ≡ P .n → length (repetition.deltaS P salt e s seeds) ≡ P .n
-  unfolding repetition.deltaS
-  length-deltaS s n =
-      let l = length-secret-le (P .n) (P .m) (repetition.raws P salt e seeds) (raws-sized P salt e seeds) in
-      let r = length-⊕ s (secret (repetition.raws P salt e seeds)) in
-      omega arith
-
-  length-corrected : (m : ℕ) (y : List ℕ) (ps : List Share) → 0 < length ps → AllSized (P .n) m ps → length y ≡ m → length (y ⊙ mask ps ⊕ helper ps) ≡ m
-  length-corrected m y [] h z g = absurd (omega arith)
-  length-corrected m y (p ∷ ps) h z g =
-      let a = length-mask (P .n) m p ps z in
-      let b = length-helper-le (P .n) m (p ∷ ps) z in
-      let c = length-⊙ y (mask (p ∷ ps)) in
-      let d = length-⊕ (y ⊙ mask (p ∷ ps)) (helper (p ∷ ps)) in
-      omega arith
-
-  length-deltaC : (y : List ℕ) → 0 < length seeds → length y ≡ P .m → length (repetition.deltaC P salt e y seeds) ≡ P .m
-  unfolding repetition.deltaC repetition.raws
-  length-deltaC y h g =
-      length-corrected (P .m) y (repetition.raws P salt e seeds)
-      (let l = length-parties (repetition.rawShare P salt e) seeds in omega arith) (raws-sized P salt e seeds) g
-
   length-com : (k : ℕ) → k < length seeds → length (getD (repetition.coms P salt e seeds) k []) ≡ 2 * S P
   unfolding repetition.coms repetition.comOf
   length-com k h = ap length (getD-parties (repetition.comOf P salt e) seeds k [] [] h) ∙ length-commit (S P) salt e (suc k) (getD seeds k [])
@@ -88,8 +63,8 @@ module _ (P : Params) (signer : Signer) (msg : List ℕ) where
           levels = length-getPath kids (P .l) (signer .root e) h;
           seeds = each-getPath (S P) (signer .salt) e (P .l) (signer .root e) h;
           commitment = length-com P (signer .salt) e (seeds P signer e) (h - 1) among;
-          Δs = length-deltaS P (signer .salt) e (seeds P signer e) s (key .s);
-          Δc = length-deltaC P (signer .salt) e (seeds P signer e) y some-seed (key .y);
+          Δs = length-deltaS P (signer .salt) e s (seeds P signer e) (key .s);
+          Δc = length-deltaC P (signer .salt) e y (seeds P signer e) some-seed (key .y);
           α = length-entry (h - 1)
               (let a = length-alphas (f P signer) (ε P signer msg e) ps in let b = length-shares P (signer .salt) e s y (seeds P signer e) in omega arith)
               (each-alpha (P .n) (P .m) (f P signer) (ε P signer msg e) ps equations (shares-sized P (signer .salt) e s y (seeds P signer e) (key .s) (key .y)));

@@ -4,28 +4,20 @@ use mathlib.Core.Path.{_≡_, refl, sym, ap, _∙_}
 use mathlib.Core.Bool.{Bool, true, false, cond}
 use mathlib.Core.List.{List}
 use Prim.Native.Nat.{ℕ, _≤_}
-use native.Mathlib.Decide.{ℕ-discrete}
 use native.Mathlib.Omega.{arith}
 use lib.ListN.{length, take}
 use Rattle.memory.proofs.Xors.{take-over}
 use Rattle.sets.specs.Sets.{paramsOf, secretKeyLength, publicKeyLength, signatureLength}
 use Rattle.biscuit.specs.Keys.{secretKey, publicKey, consistentKey, publicHalf}
 use Rattle.biscuit.specs.Sign.{signature}
-use Rattle.refusals.specs.Refusals.{workLength, publicHalfSizes, signSizes, orElse}
+use Rattle.refusals.specs.Refusals.{workLength, publicHalfSizes, signSizes}
 use Rattle.biscuit.specs.Desk.{keyNumber, MakeKeysOutcome, makeKeysNumber, makeKeysOutcome, PublicHalfOutcome, publicHalfNumber, publicHalfOutcome, SignOutcome, signNumber, signOutcome, VerifyOutcome, verifyOutcome}
 use Rattle.biscuit.proofs.Keys.{length-secretKey, length-publicKey, length-publicHalf, made-key-consistent, public-half-of-made}
 use Rattle.biscuit.proofs.Genuine.{length-signature, genuine-in-every-set}
-use Rattle.refusals.proofs.Refusals.{SignRight, make-keys-right, public-half-right, sign-right, right-verify, orElse-right, orElse-refused}
+use Rattle.refusals.proofs.Refusals.{SignRight, make-keys-right, public-half-right, sign-right, right-verify, orElse-done}
 use Rattle.biscuit.proofs.Outcomes.{make-keys-done, public-half-done, sign-done, verify-genuine}
 
 -- ---- a call whose number is 0
-
-both-done : (sizes rest : ℕ) → orElse sizes rest ≡ 0 → (sizes ≡ 0) × (rest ≡ 0)
-both-done sizes rest e =
-    elim (ℕ-discrete sizes 0) as (λ d. (sizes ≡ 0) × (rest ≡ 0)) [
-      | yes y ↦ (y, sym (orElse-right sizes rest y) ∙ e)
-      | no n ↦ absurd (n (sym (orElse-refused sizes rest n) ∙ e))
-    ]
 
 key-done : (set : ℕ) (sk : List ℕ) → keyNumber set sk ≡ 0 → consistentKey (paramsOf set) sk ≡ true
 unfolding keyNumber
@@ -45,7 +37,7 @@ pub signed-with-0 : (set : ℕ) (sk msg rnd sigBefore workBefore : List ℕ) (en
     → ended ≡ signOutcome set sk msg rnd sigBefore workBefore → ended .number ≡ 0 → Signed set sk msg rnd sigBefore workBefore ended
 unfolding signOutcome signNumber
 signed-with-0 set sk msg rnd sigBefore workBefore ended p z =
-    let d = both-done (signSizes set (length sk) (length msg) (length rnd) (length sigBefore) (length workBefore)) (keyNumber set sk) (sym (ap (λ (o : SignOutcome). o .number) p) ∙ z) in
+    let d = orElse-done (signSizes set (length sk) (length msg) (length rnd) (length sigBefore) (length workBefore)) (keyNumber set sk) (sym (ap (λ (o : SignOutcome). o .number) p) ∙ z) in
     let right = sign-right set (length sk) (length msg) (length rnd) (length sigBefore) (length workBefore) (d .0) in
     let key = key-done set sk (d .1) in
     record {
@@ -62,7 +54,7 @@ pub half-with-0 : (set : ℕ) (sk pkBefore workBefore : List ℕ) (ended : Publi
     → take (publicKeyLength (paramsOf set)) (ended .publicKey) ≡ publicHalf (paramsOf set) sk
 unfolding publicHalfOutcome publicHalfNumber
 half-with-0 set sk pkBefore workBefore ended p z =
-    let d = both-done (publicHalfSizes set (length sk) (length pkBefore) (length workBefore)) (keyNumber set sk) (sym (ap (λ (o : PublicHalfOutcome). o .number) p) ∙ z) in
+    let d = orElse-done (publicHalfSizes set (length sk) (length pkBefore) (length workBefore)) (keyNumber set sk) (sym (ap (λ (o : PublicHalfOutcome). o .number) p) ∙ z) in
     let right = public-half-right set (length sk) (length pkBefore) (length workBefore) (d .0) in
     ap (λ (o : PublicHalfOutcome). take (publicKeyLength (paramsOf set)) (o .publicKey)) (p ∙ sym (public-half-done set sk pkBefore workBefore (d .0) (key-done set sk (d .1))))
     ∙ take-over (publicHalf (paramsOf set) sk) pkBefore (publicKeyLength (paramsOf set)) (length-publicHalf (paramsOf set) sk (right .secretKey)) (right .publicKey)

@@ -1,19 +1,13 @@
 // The calls of the signing desk (document 01, "What the desk says"). Each takes any arguments: sizes are tested first, and a refusal changes nothing. What a call promises,
 // its number and every byte that it was lent, is one equation. Which number comes back is told to the caller; nothing else that is secret chooses a branch here.
+use refusals::DONE;
+use refusals::KEY_NOT_CONSISTENT;
+use refusals::NOT_ACCEPTED;
 ghost use mathlib.Core.Path.{_≡_};
 ghost use Prim.Native.Nat.{_≤_};
 ghost use lib.ListN.{length};
 ghost use Rattle.refusals.specs.Refusals.{workLength, cleared, makeKeysSizes, publicHalfSizes, signSizes, verifySizes};
 ghost use Rattle.biscuit.specs.Desk.{makeKeysEnded, makeKeysOutcome, publicHalfEnded, publicHalfOutcome, signEnded, signOutcome, verifyEnded, verifyOutcome};
-
-// Done.
-const DONE: u8 = 0;
-
-// The secret key is not consistent.
-const KEY_NOT_CONSISTENT: u8 = 8;
-
-// Verification doesn't accept.
-const NOT_ACCEPTED: u8 = 9;
 
 // Make keys: fills two outputs with the keys of two seeds.
 pub fn make_keys(

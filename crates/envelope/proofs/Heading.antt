@@ -102,8 +102,3 @@ header-written-back a b c f g h =
     ∙ header-bytes (a / 16) (a % 16) (b * 256 + c)
     ∙ ap₂ (λ (x y : ℕ). x ∷ y ∷ ((b * 256 + c) % 256) ∷ []) first second
     ∙ ap (λ (x : ℕ). a ∷ b ∷ x ∷ []) third
-
--- document 01, "Close comparisons": header version 1, set 2, length 300 is 12 01 2c
-pub header-1-2-300 : headerBytes (header 1 2 300) ≡ 0x12 ∷ 0x01 ∷ 0x2c ∷ []
-unfolding headerBytes bytes spelled bits
-header-1-2-300 = refl

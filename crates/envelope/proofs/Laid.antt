@@ -8,7 +8,7 @@ use native.Mathlib.Omega.{arith}
 use lib.ListN.{length, getD, take, drop, length-append, length-drop, take-append-drop}
 use lib.Seq.{take-all, drop-drop}
 use Rattle.memory.specs.Lists.{over, put}
-use Rattle.memory.proofs.Parts.{length-put, put-next, over-put}
+use Rattle.memory.proofs.Parts.{length-put, put-next, over-put, back}
 use Rattle.memory.proofs.Sections.{put-nil, copied-part}
 use Rattle.envelope.specs.Envelope.{header, headerBytes, envelopeOf, between}
 use Rattle.envelope.proofs.Heading.{header-bytes}
@@ -21,10 +21,6 @@ unfolding envelopeOf
 length-envelope set pk sig msg = let h = length-header 1 set (length msg) in simp length-append (omega arith)
 
 -- ---- a part of an output that is lent, copied over, and comes back
-
--- the output with l in the place of the part from a to e
-abbrev pub back : List ℕ → ℕ → ℕ → List ℕ → List ℕ
-back x a e l = take a x ++ (l ++ drop (e - a) (drop a x))
 
 -- `laid` stands at the start of y, which was x; one part more is copied behind it
 laid-next : (x y laid part l : List ℕ) (a e : ℕ) → y ≡ put x 0 laid → length laid ≡ a → a + length part ≡ e → e ≤ length x → l ≡ over part (between a e y)

@@ -1,5 +1,6 @@
 pub mod Bits
 pub mod Cut
+pub mod EveryEnvelope
 pub mod Heading
 pub mod Laid
 pub mod OneOutcome

@@ -1,10 +1,7 @@
 -- Each public function of this crate has one outcome: its promise is an equation to what the inputs, and what lay in the lent part before, determine. So number, header, places and every byte are settled, for refusals
 -- too. Of a part that is handed back it is settled where it lies and what it holds; the name that Rattle's logic gives a reference is no part of the machine's state. Assumes nothing.
 use mathlib.Core.Path.{sym, ap, _∙_}
-use mathlib.Core.List.{List}
-use Prim.Native.Nat.{ℕ}
 use Rattle.memory.specs.Outcome.{OneOutcome, OneSight}
-use Rattle.envelope.specs.declared.Header.{Header}
 use Rattle.envelope.specs.declared.Reading.{Reading}
 use Rattle.envelope.specs.declared.Places.{Places}
 use Rattle.envelope.specs.Envelope.{WriteOutcome, Lent, lent}
@@ -14,8 +11,6 @@ use Rattle.envelope.proofs.«places_of» as places-of
 use Rattle.envelope.proofs.«public_key_of» as public-key-of
 use Rattle.envelope.proofs.«signature_of» as signature-of
 use Rattle.envelope.proofs.«message_of» as message-of
-use Rattle.envelope.proofs.fields.«header_bytes» as header-bytes
-use Rattle.envelope.proofs.fields.«header_of» as header-of
 
 pub write-one-outcome : OneOutcome write.Kinds.ps write.Kinds.r write.Reads.Asked write.Reads.Learnt
 write-one-outcome κs a good asked o q x y =
@@ -38,9 +33,3 @@ signature-of-one-outcome κs a good asked o q x y = x .promised ∙ sym (y .prom
 pub message-of-one-outcome :
     OneSight message-of.Kinds.ps message-of.Kinds.r message-of.Reads.Asked message-of.Reads.Learnt Lent (λ κs a o. lent (o .0))
 message-of-one-outcome κs a good asked o q x y = x .promised ∙ sym (y .promised)
-
-pub header-bytes-one-outcome : OneOutcome header-bytes.Kinds.ps header-bytes.Kinds.r header-bytes.Reads.Asked header-bytes.Reads.Learnt
-header-bytes-one-outcome κs a good asked o q x y = ap (λ (l : List ℕ). (l, (tt, tt))) (x .promised ∙ sym (y .promised))
-
-pub header-of-one-outcome : OneOutcome header-of.Kinds.ps header-of.Kinds.r header-of.Reads.Asked header-of.Reads.Learnt
-header-of-one-outcome κs a good asked o q x y = ap (λ (h : Header). (h, (tt, (tt, (tt, tt))))) (x .promised ∙ sym (y .promised))

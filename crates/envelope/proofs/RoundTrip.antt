@@ -1,5 +1,5 @@
--- Round trips over the promises: what was written with the number 0 is read back, whatever stood behind it in the output; and what was read with the number 0 is
--- written as the same bytes. Assumes nothing.
+-- Round trips over what the calls promise, as equations to their outcomes: what was written with the number 0 is read back, whatever stood behind it in the output; and what was read with
+-- the number 0 is written as the same bytes. `EveryEnvelope` says it of the contracts themselves. Assumes nothing.
 use mathlib.Core.Path.{_≡_, refl, sym, ap, ap₂, _∙_, subst}
 use mathlib.Core.List.{List, [], _++_, append-assoc, append-nil}
 use Prim.Native.Nat.{ℕ, _+_, _-_, _≤_, _<_}

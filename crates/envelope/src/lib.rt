@@ -2,8 +2,16 @@
 // take any arguments: what is wrong is refused by its number, and a refusal changes nothing. Nothing here knows what a key or a signature means beyond its size.
 mod fields;
 
-pub use fields::header_bytes;
-pub use fields::header_of;
+use fields::header_bytes;
+use fields::header_of;
+use refusals::DONE;
+use refusals::ENVELOPE_LENGTH_WRONG;
+use refusals::ENVELOPE_VERSION_WRONG;
+use refusals::KEY_LENGTH_WRONG;
+use refusals::MESSAGE_TOO_LONG;
+use refusals::NO_SUCH_SET;
+use refusals::OUTPUT_TOO_SHORT;
+use refusals::SIGNATURE_LENGTH_WRONG;
 ghost use mathlib.Core.Path.{_≡_};
 ghost use lib.ListN.{length};
 ghost use Rattle.memory.specs.Lists.{over};
@@ -25,23 +33,6 @@ const VERSION: usize = 1;
 
 // The bytes of a header.
 const HEADER: usize = 3;
-
-// The numbers of document 01's table that writing and reading give.
-const DONE: u8 = 0;
-
-const NO_SUCH_SET: u8 = 1;
-
-const MESSAGE_TOO_LONG: u8 = 3;
-
-const KEY_LENGTH_WRONG: u8 = 4;
-
-const SIGNATURE_LENGTH_WRONG: u8 = 5;
-
-const OUTPUT_TOO_SHORT: u8 = 6;
-
-const ENVELOPE_LENGTH_WRONG: u8 = 10;
-
-const ENVELOPE_VERSION_WRONG: u8 = 11;
 
 // What reading says: the number of document 01's table, and the header, which is all 0 on refusal.
 pub struct Reading {

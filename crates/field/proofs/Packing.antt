@@ -9,9 +9,10 @@ use native.Mathlib.Nat.{mod-lt, mod-eq-of-lt, zero-div}
 use native.Mathlib.Decide.{ℕ-discrete, decLt}
 use native.Mathlib.Omega.{arith}
 use lib.Dec.{lit<}
-use lib.ListN.{length, getD, take, drop, List·getD-append, List·getD-eq-default}
-use lib.Seq.{getD-append-add, getD-take, getD-drop}
+use lib.ListN.{length, getD, take, drop, replicate, List·getD-append, List·getD-eq-default}
+use lib.Seq.{ext-getD, getD-append-add, getD-take, getD-drop}
 use Rattle.memory.proofs.Lists.{length-table, getD-table, table-of, table-same, table-add}
+use Rattle.memory.proofs.Xors.{getD-zeros}
 use Rattle.field.specs.Packing.{Elements, Bytes, pack, packedLength, nib, unpack}
 
 -- ---- even and odd places
@@ -64,6 +65,11 @@ pub nib-past : (b : List ℕ) (i : ℕ) → length b ≤ i / 2 → nib b i ≡ 0
 unfolding nib
 nib-past b i h = ap (λ (x : ℕ). x / 16 ^ (i % 2) % 16) (List·getD-eq-default b 0 h) ∙ ap (λ (x : ℕ). x % 16) (zero-div (16 ^ (i % 2)))
 
+-- zeros hold zeros
+pub nib-zeros : (n i : ℕ) → nib (replicate n 0) i ≡ 0
+unfolding nib
+nib-zeros n i = ap (λ (x : ℕ). x / 16 ^ (i % 2) % 16) (getD-zeros n (i / 2)) ∙ ap (λ (x : ℕ). x % 16) (zero-div (16 ^ (i % 2)))
+
 -- in a part of the bytes, and in bytes put one after the other
 pub nib-take : (k : ℕ) (b : List ℕ) (i : ℕ) → i < k * 2 → nib (take k b) i ≡ nib b i
 unfolding nib
@@ -87,7 +93,28 @@ nib-append-right b c i =
     let m : (length b * 2 + i) % 2 ≡ i % 2 = omega arith in
     rw (d, m, getD-append-add b c (i / 2) 0)
 
+-- half bytes and length fix a list of bytes
+pub bytes-by-halves : (a b : List ℕ) → Bytes a → Bytes b → length a ≡ length b → ((j : ℕ) → j < 2 * length a → nib a j ≡ nib b j) → a ≡ b
+bytes-by-halves a b ha hb e h = ext-getD 0 a b e (λ i l. entry i l)
+  where
+    entry : (i : ℕ) → i < length a → getD a i 0 ≡ getD b i 0
+    entry i l =
+        let x = h (i * 2) (omega arith) in
+        let y = h (i * 2 + 1) (omega arith) in
+        let p = nib-even a i in
+        let q = nib-even b i in
+        let r = nib-odd a i in
+        let s = nib-odd b i in
+        let t = ha i in
+        let u = hb i in
+        omega arith
+
 -- ---- packing
+
+-- the size as the code works it out
+pub half-up : (n : ℕ) → n / 2 + n % 2 ≡ packedLength n
+unfolding packedLength
+half-up n = omega arith
 
 pub length-pack : (v : List ℕ) → length (pack v) ≡ packedLength (length v)
 unfolding pack packedLength

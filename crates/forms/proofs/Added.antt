@@ -1,29 +1,29 @@
--- Rows of packed coefficients times words of lanes: sums of products, one byte more of a row, one pair of words more, a block of columns more,
+-- Rows of packed coefficients times words of lanes: sums of products, one byte of a row, the sums of one pair of words more, a block of columns more,
 -- and that the whole is the product of the row and the vector in a lane. Assumes nothing.
 use mathlib.Core.Path.{_≡_, refl, sym, ap, ap₂, _∙_, subst}
-use mathlib.Core.List.{List, [], _∷_, _++_}
+use mathlib.Core.List.{List, _++_}
 use Prim.Native.Nat.{ℕ, zero, suc, _+_, _-_, _*_, _/_, _%_, _≤_, _<_}
-use native.Mathlib.Nat.{zero-add, add-zero, add-suc, add-assoc, mod-lt}
+use native.Mathlib.Nat.{zero-add, add-zero, add-suc, add-assoc}
 use native.Mathlib.Decide.{decLt}
 use native.Mathlib.Omega.{arith}
 use lib.Bits.{bitXor, xor-zero-r, xor-zero-l}
-use lib.Dec.{lit<}
-use lib.ListN.{length, getD, take, drop, set, length-drop, List·getD-eq-default}
-use lib.Seq.{length-take-le, getD-set-same, getD-set-other}
+use lib.ListN.{length, getD, take, drop, set, length-drop}
+use lib.Seq.{length-take-le, getD-take, getD-drop, getD-set-same, getD-set-other}
 use Rattle.memory.specs.Lists.{table, put}
 use Rattle.memory.proofs.Bits.{xor-assoc}
 use Rattle.memory.proofs.Bytes.{take-table}
+use Rattle.memory.proofs.Every.{same1}
 use Rattle.memory.proofs.Lists.{getD-table, room}
 use Rattle.memory.proofs.Parts.{getD-put-before, getD-put-in, lent-put}
 use Rattle.field.specs.Field.{mul}
 use Rattle.field.specs.Packing.{nib}
 use Rattle.field.specs.Vectors.{_!_, dot}
-use Rattle.field.proofs.Laws.{mul-zero-r}
+use Rattle.field.proofs.Laws.{mul-xor-l, mul-zero-l, mul-zero-r}
 use Rattle.field.proofs.Packing.{nib-even, nib-odd, nib-take, nib-drop}
 use Rattle.field.proofs.Vectors.{dot-take-suc}
 use Rattle.lanes.specs.Lanes.{lane, Multiples}
-use Rattle.lanes.proofs.Laws.{lane-xor, lane-zero}
-use Rattle.forms.specs.Rows.{sumOf, PairValue, PairsOf, PairsFrom, SumsOf, RowAdded, RowsAdded}
+use Rattle.lanes.proofs.Laws.{lane-xor}
+use Rattle.forms.specs.Rows.{sumOf, PairValue, PairsOf, PairsFrom, Spread, RowAdded, RowsAdded}
 
 -- ---- sums of products
 
@@ -76,63 +76,45 @@ unfolding sumOf table dot
 dot-sumOf zero f s = refl
 dot-sumOf (suc n) f s = dot-table-suc n f s ∙ ap (λ (x : ℕ). bitXor x (mul (f n) (s ! n))) (dot-sumOf n f s)
 
--- ---- one byte more of a row
+-- ---- one byte of a row
 
-module _ (bytes t s : List ℕ) (a x sum b i : ℕ) (inside : i < length bytes) (byte : b ≡ getD bytes i 0) (small : b < 256)
-    (pairs : PairsFrom s a (length bytes) t) where
-  picked : (q : ℕ) → q < 16 → lane q (getD t (i * 256 + b) 0)
-      ≡ bitXor (mul (nib bytes (0 + i * 2)) (lane q (getD s (a + i * 2) 0))) (mul (nib bytes (0 + suc (i * 2))) (lane q (getD s (a + suc (i * 2)) 0)))
-  unfolding PairsFrom PairValue
-  picked q h =
-      let g : 0 + suc (i * 2) ≡ i * 2 + 1 = omega arith in
-      let v : b / 16 ≡ getD bytes i 0 / 16 % 16 = omega arith in
-      let w : a + i * 2 + 1 ≡ a + suc (i * 2) = omega arith in
-      pairs i b inside small q h
-      ∙ ap₂ bitXor
-      (ap (λ (c : ℕ). mul c (lane q (getD s (a + i * 2) 0))) (ap (λ (d : ℕ). d % 16) byte ∙ sym (nib-even bytes i) ∙ ap (nib bytes) (sym (zero-add (i * 2)))))
-      (ap₂ (λ (c k : ℕ). mul c (lane q (getD s k 0))) (v ∙ sym (nib-odd bytes i) ∙ ap (nib bytes) (sym g)) w)
+sumOf-two : (f g : ℕ → ℕ) → sumOf 2 f g ≡ bitXor (mul (f 0) (g 0)) (mul (f 1) (g 1))
+unfolding sumOf
+sumOf-two f g = ap (λ (x : ℕ). bitXor x (mul (f 1) (g 1))) (xor-zero-l (mul (f 0) (g 0)))
 
-  pub row-more : RowAdded bytes 0 s a (i * 2) x sum → RowAdded bytes 0 s a ((i + 1) * 2) x (bitXor sum (getD t (i * 256 + b) 0))
-  unfolding RowAdded
-  row-more done q h =
-      let f : ℕ → ℕ = λ j. nib bytes (0 + j) in
-      let g : ℕ → ℕ = λ j. lane q (getD s (a + j) 0) in
-      let e : (i + 1) * 2 ≡ suc (suc (i * 2)) = omega arith in
-      lane-xor q sum (getD t (i * 256 + b) 0)
-      ∙ ap₂ bitXor (done q h) (picked q h)
-      ∙ xor-assoc (lane q x) (sumOf (i * 2) f g) (bitXor (mul (f (i * 2)) (g (i * 2))) (mul (f (suc (i * 2))) (g (suc (i * 2)))))
-      ∙ ap (bitXor (lane q x))
-      (sym (xor-assoc (sumOf (i * 2) f g) (mul (f (i * 2)) (g (i * 2))) (mul (f (suc (i * 2))) (g (suc (i * 2)))))
-      ∙ sym (sumOf-suc (suc (i * 2)) f g ∙ ap (λ (v : ℕ). bitXor v (mul (f (suc (i * 2))) (g (suc (i * 2))))) (sumOf-suc (i * 2) f g))
-      ∙ ap (λ (k : ℕ). sumOf k f g) (sym e))
+-- a byte picks what its two coefficients add
+pub row-byte : (bytes s sums : List ℕ) (i a x p : ℕ) → PairsOf (getD s a 0) (getD s (a + 1) 0) sums → getD bytes i 0 < 256 → p ≡ getD sums (getD bytes i 0) 0
+    → RowAdded bytes (i * 2) s a 2 x (bitXor x p)
+unfolding RowAdded PairsOf PairValue
+row-byte bytes s sums i a x p pairs small pick q h =
+    let b : ℕ = getD bytes i 0 in
+    let f : ℕ → ℕ = λ j. nib bytes (i * 2 + j) in
+    let g : ℕ → ℕ = λ j. lane q (getD s (a + j) 0) in
+    let low : b % 16 ≡ f 0 = sym (nib-even bytes i) ∙ ap (nib bytes) (sym (add-zero (i * 2))) in
+    let half : b / 16 ≡ b / 16 % 16 = omega arith in
+    let high : b / 16 ≡ f 1 = half ∙ sym (nib-odd bytes i) in
+    lane-xor q x p
+    ∙ ap (bitXor (lane q x))
+    (ap (lane q) pick
+    ∙ pairs b small q h
+    ∙ ap₂ bitXor (ap₂ (λ (c k : ℕ). mul c (lane q (getD s k 0))) low (sym (add-zero a))) (ap (λ (c : ℕ). mul c (g 1)) high)
+    ∙ sym (sumOf-two f g))
 
 pub row-none : (bytes : List ℕ) (i : ℕ) (s : List ℕ) (a x : ℕ) → RowAdded bytes i s a 0 x x
 unfolding RowAdded sumOf
 row-none bytes i s a x q h = sym (xor-zero-r (lane q x))
 
 -- a part of the bytes that is a row's, as it is lent
-module _ (bytes : List ℕ) (from n : ℕ) (t s : List ℕ) (a x r : ℕ) (fits : from + n ≤ length bytes) where
-  part : List ℕ
-  part = take (from + n - from) (drop from bytes)
-
-  part-length : length part ≡ n
-  unfolding part
-  part-length =
-      let e : from + n - from ≡ n = omega arith in
-      length-take-le (from + n - from) (drop from bytes) (simp length-drop (omega arith)) ∙ e
-
-  pub row-lent : PairsFrom s a n t
-      → (PairsFrom s a (length (take (from + n - from) (drop from bytes))) t
-      → RowAdded (take (from + n - from) (drop from bytes)) 0 s a (length (take (from + n - from) (drop from bytes)) * 2) x r)
-      → RowAdded bytes (from * 2) s a (n * 2) x r
-  unfolding RowAdded part
-  row-lent pairs row q h =
-      let g : ℕ → ℕ = λ j. lane q (getD s (a + j) 0) in
-      row (subst (λ (k : ℕ). PairsFrom s a k t) (sym part-length) pairs) q h
-      ∙ ap (λ (k : ℕ). bitXor (lane q x) (sumOf (k * 2) (λ j. nib part (0 + j)) g)) part-length
-      ∙ ap (bitXor (lane q x))
-      (sumOf-same (n * 2) (λ j. nib part (0 + j)) (λ j. nib bytes (from * 2 + j)) g g
-      (λ j k. ap (nib part) (zero-add j) ∙ nib-take (from + n - from) (drop from bytes) j (omega arith) ∙ nib-drop from bytes j) (λ j k. refl))
+pub row-lent : (bytes : List ℕ) (from n : ℕ) (s : List ℕ) (a x r : ℕ) → RowAdded (take (from + n - from) (drop from bytes)) 0 s a (n * 2) x r
+    → RowAdded bytes (from * 2) s a (n * 2) x r
+unfolding RowAdded
+row-lent bytes from n s a x r row q h =
+    let part : List ℕ = take (from + n - from) (drop from bytes) in
+    let g : ℕ → ℕ = λ j. lane q (getD s (a + j) 0) in
+    row q h
+    ∙ ap (bitXor (lane q x))
+    (sumOf-same (n * 2) (λ j. nib part (0 + j)) (λ j. nib bytes (from * 2 + j)) g g
+    (λ j k. ap (nib part) (zero-add j) ∙ nib-take (from + n - from) (drop from bytes) j (omega arith) ∙ nib-drop from bytes j) (λ j k. refl))
 
 -- ---- one part of w entries more
 
@@ -160,7 +142,7 @@ module _ (P : ℕ → ℕ → ℕ → Type 0) (w c : ℕ) (t ys : List ℕ) (don
       let size : length ys ≡ c * w + w - c * w = kept ∙ length-take-le (c * w + w - c * w) (drop (c * w) t) (simp length-drop (omega arith)) in
       subst (Parts P w (c + 1)) (sym (lent-put t (c * w) (c * w + w) ys size)) (part-more (omega arith) fits)
 
--- the pairs of one word more, and the sums with one word more
+-- the sums of one pair of words more
 pub pairs-lent : (s t ys : List ℕ) (a c u v : ℕ) → PairsFrom s a c t → u ≡ getD s (a + c * 2) 0 → v ≡ getD s (a + c * 2 + 1) 0 → PairsOf u v ys
     → length ys ≡ length (take (c * 256 + 256 - c * 256) (drop (c * 256) t)) → c * 256 + 256 ≤ length t
     → PairsFrom s a (c + 1) (take (c * 256) t ++ (ys ++ drop (c * 256 + 256 - c * 256) (drop (c * 256) t)))
@@ -169,30 +151,90 @@ pairs-lent s t ys a c u v done eu ev next =
     part-lent (λ d b x. PairValue (getD s (a + d * 2) 0) (getD s (a + d * 2 + 1) 0) b x) 256 c t ys done
     (λ b h. subst (λ (i : ℕ). PairValue i (getD s (a + c * 2 + 1) 0) b (getD ys b 0)) eu (subst (λ (i : ℕ). PairValue u i b (getD ys b 0)) ev (next b h)))
 
-pub sums-lent : (low high t ys : List ℕ) (c w : ℕ) → SumsOf low high c t → w ≡ getD high c 0 → ((l : ℕ) → l < 16 → getD ys l 0 ≡ bitXor (getD low l 0) w)
-    → length ys ≡ length (take (c * 16 + 16 - c * 16) (drop (c * 16) t)) → c * 16 + 16 ≤ length t
-    → SumsOf low high (c + 1) (take (c * 16) t ++ (ys ++ drop (c * 16 + 16 - c * 16) (drop (c * 16) t)))
-unfolding SumsOf
-sums-lent low high t ys c w done e next =
-    part-lent (λ h l x. x ≡ bitXor (getD low l 0) (getD high h 0)) 16 c t ys done (λ l h. next l h ∙ ap (bitXor (getD low l 0)) e)
-
 pub pairs-none : (s t : List ℕ) (a : ℕ) → PairsFrom s a 0 t
 unfolding PairsFrom
 pairs-none s t a c b hc hb = absurd (omega arith)
 
-pub sums-none : (low high t : List ℕ) → SumsOf low high 0 t
-unfolding SumsOf
-sums-none low high t h l hh hl = absurd (omega arith)
+-- the sums of one pair, as they are lent
+pub pairs-part : (s t : List ℕ) (a n i : ℕ) → PairsFrom s a n t → i < n
+    → PairsOf (getD s (a + i * 2) 0) (getD s (a + i * 2 + 1) 0) (take (i * 256 + 256 - i * 256) (drop (i * 256) t))
+unfolding PairsFrom PairsOf
+pairs-part s t a n i pairs inside b h =
+    subst (PairValue (getD s (a + i * 2) 0) (getD s (a + i * 2 + 1) 0) b)
+    (sym (getD-take (i * 256 + 256 - i * 256) (drop (i * 256) t) b 0 (omega arith) ∙ getD-drop (i * 256) t b 0))
+    (pairs i b inside h)
 
--- the sums of two words' multiples are what every byte picks
-pub sums-pairs : (u v : ℕ) (low high t : List ℕ) → Multiples u low → Multiples v high → SumsOf low high 16 t → PairsOf u v t
-unfolding Multiples SumsOf PairsOf PairValue
-sums-pairs u v low high t ml mh sums b h q hq =
-    let place : b / 16 * 16 + b % 16 ≡ b = omega arith in
-    ap (λ (i : ℕ). lane q (getD t i 0)) (sym place)
-    ∙ ap (lane q) (sums (b / 16) (b % 16) (omega arith) (mod-lt b (lit< tt)))
-    ∙ lane-xor q (getD low (b % 16) 0) (getD high (b / 16) 0)
-    ∙ ap₂ bitXor (ml (b % 16) q (mod-lt b (lit< tt)) hq) (mh (b / 16) q (omega arith) hq)
+-- ---- the sums of a pair, twice as many at each step
+
+-- the sums for the bytes below n
+abbrev pub PairsBelow : ℕ → ℕ → ℕ → List ℕ → Type 0
+PairsBelow n u v t = (b : ℕ) → b < n → PairValue u v b (getD t b 0)
+
+-- where the high half is 0: the multiples of the first word, as they are lent
+pub pairs-first : (u v : ℕ) (out ys : List ℕ) → Multiples u ys → length out ≡ 256 → length ys ≡ length (take (16 - 0) (drop 0 out))
+    → PairsBelow 16 u v (take 0 out ++ (ys ++ drop (16 - 0) (drop 0 out)))
+unfolding Multiples PairValue
+pairs-first u v out ys m full kept b h q hq =
+    let size : length ys ≡ 16 - 0 = kept ∙ length-take-le (16 - 0) (drop 0 out) (simp length-drop (omega arith)) in
+    let low : b ≡ b % 16 = omega arith in
+    let high : 0 ≡ b / 16 = omega arith in
+    ap (λ (t : List ℕ). lane q (getD t b 0)) (lent-put out 0 16 ys size)
+    ∙ ap (λ (k : ℕ). lane q (getD (put out 0 ys) k 0)) (sym (zero-add b))
+    ∙ ap (lane q) (getD-put-in out 0 ys (omega arith) b (omega arith))
+    ∙ m b q h hq
+    ∙ sym (xor-zero-r (mul b (lane q u)))
+    ∙ ap₂ bitXor (ap (λ (c : ℕ). mul c (lane q u)) low) (sym (mul-zero-l (lane q v)) ∙ ap (λ (c : ℕ). mul c (lane q v)) high)
+
+-- one word more is spread
+pub spread-more : (n w k : ℕ) (old cur : List ℕ) → n + k < length cur → getD cur k 0 ≡ getD old k 0 → ((j : ℕ) → j < k → getD cur (n + j) 0 ≡ bitXor (getD old j 0) w)
+    → (j : ℕ) → j < k + 1 → getD (set cur (n + k) (bitXor (getD cur k 0) w)) (n + j) 0 ≡ bitXor (getD old j 0) w
+spread-more n w k old cur h e done j g =
+    let v : ℕ = bitXor (getD cur k 0) w in
+    elim (decLt j k) as (λ d. getD (set cur (n + k) v) (n + j) 0 ≡ bitXor (getD old j 0) w) [
+      | yes y ↦ getD-set-other cur (n + k) (n + j) v 0 (λ z. omega arith) ∙ done j y
+      | no y ↦
+          (let z : k ≡ j = omega arith in
+          subst (λ (i : ℕ). getD (set cur (n + k) v) (n + i) 0 ≡ bitXor (getD old i 0) w) z
+          (getD-set-same cur (n + k) v 0 h ∙ ap (λ (x : ℕ). bitXor x w) e))
+    ]
+
+-- h is one bit above every number below it
+abbrev pub Above : ℕ → Type 0
+Above h = (j : ℕ) → j < h → h + j ≡ bitXor j h
+
+pub above-1 : Above 1
+above-1 = same1 1 (λ j. 1 + j) (λ j. bitXor j 1) tt
+
+pub above-2 : Above 2
+above-2 = same1 2 (λ j. 2 + j) (λ j. bitXor j 2) tt
+
+pub above-4 : Above 4
+above-4 = same1 4 (λ j. 4 + j) (λ j. bitXor j 4) tt
+
+pub above-8 : Above 8
+above-8 = same1 8 (λ j. 8 + j) (λ j. bitXor j 8) tt
+
+module _ (h u v w : ℕ) (high old new : List ℕ) (above : Above h) (small : h < 16) (m : Multiples v high) (word : w ≡ getD high h 0) (spread : Spread (h * 16) w old new) where
+  spread-value : (k : ℕ) → k < h * 16 → PairValue u v k (getD old k 0) → PairValue u v (h * 16 + k) (getD new (h * 16 + k) 0)
+  unfolding Multiples PairValue
+  spread-value k g value q hq =
+      let low : k % 16 ≡ (h * 16 + k) % 16 = omega arith in
+      let up : h + k / 16 ≡ (h * 16 + k) / 16 = omega arith in
+      ap (lane q) (spread .added k g)
+      ∙ lane-xor q (getD old k 0) w
+      ∙ ap₂ bitXor (value q hq) (ap (lane q) word ∙ m h q small hq)
+      ∙ xor-assoc (mul (k % 16) (lane q u)) (mul (k / 16) (lane q v)) (mul h (lane q v))
+      ∙ ap₂ bitXor (ap (λ (c : ℕ). mul c (lane q u)) low)
+      (sym (mul-xor-l (k / 16) h (lane q v)) ∙ ap (λ (c : ℕ). mul c (lane q v)) (sym (above (k / 16) (omega arith)) ∙ up))
+
+  pub pairs-spread : PairsBelow (h * 16) u v old → PairsBelow (h * 16 + h * 16) u v new
+  pairs-spread done b g =
+      elim (decLt b (h * 16)) as (λ d. PairValue u v b (getD new b 0)) [
+        | yes y ↦ subst (PairValue u v b) (sym (spread .before b y)) (done b y)
+        | no y ↦
+            (let e : h * 16 + (b - h * 16) ≡ b = omega arith in
+            subst (λ (k : ℕ). PairValue u v k (getD new k 0)) e (spread-value (b - h * 16) (omega arith) (done (b - h * 16) (omega arith))))
+      ]
 
 -- ---- one row more, and a block of columns more
 
@@ -230,20 +272,37 @@ row-then bytes i s a m n x y z first second q h =
     ∙ xor-assoc (lane q x) (sumOf m f g) (sumOf n (λ j. f (m + j)) (λ j. g (m + j)))
     ∙ ap (bitXor (lane q x)) (sym (sumOf-add m n f g))
 
+-- the byte i picks from its pair's sums what is added next
+pub row-more : (bytes t s : List ℕ) (a n i x sum p : ℕ) → PairsFrom s a n t → i < n → getD bytes i 0 < 256
+    → p ≡ getD (take (i * 256 + 256 - i * 256) (drop (i * 256) t)) (getD bytes i 0) 0
+    → RowAdded bytes 0 s a (i * 2) x sum → RowAdded bytes 0 s a ((i + 1) * 2) x (bitXor sum p)
+row-more bytes t s a n i x sum p pairs inside small pick done =
+    let e : i * 2 + 2 ≡ (i + 1) * 2 = omega arith in
+    subst (λ (k : ℕ). RowAdded bytes 0 s a k x (bitXor sum p)) e
+    (row-then bytes 0 s a (i * 2) 2 x sum (bitXor sum p) done
+    (subst (λ (k : ℕ). RowAdded bytes k s (a + i * 2) 2 sum (bitXor sum p)) (sym (zero-add (i * 2)))
+    (row-byte bytes s (take (i * 256 + 256 - i * 256) (drop (i * 256) t)) i (a + i * 2) sum p (pairs-part s t a n i pairs inside) small pick)))
+
 pub rows-none : (bytes : List ℕ) (start width : ℕ) (s : List ℕ) (a : ℕ) (old : List ℕ) → RowsAdded bytes start width s a 0 old old
 unfolding RowsAdded
 rows-none bytes start width s a old k h = row-none bytes ((start + k * width) * 2) s a (getD old k 0)
 
 -- `at` bytes of each row, and then `count` more
+pub rows-on : (bytes : List ℕ) (start from at count width : ℕ) (s : List ℕ) (a : ℕ) (old mid new : List ℕ) → from ≡ start + at → length mid ≡ length old
+    → RowsAdded bytes start width s a (at * 2) old mid → RowsAdded bytes from width s (a + at * 2) (count * 2) mid new
+    → RowsAdded bytes start width s a ((at + count) * 2) old new
+unfolding RowsAdded
+rows-on bytes start from at count width s a old mid new place size first second k h =
+    let e : at * 2 + count * 2 ≡ (at + count) * 2 = omega arith in
+    let p : (from + k * width) * 2 ≡ (start + k * width) * 2 + at * 2 = omega arith in
+    subst (λ (c : ℕ). RowAdded bytes ((start + k * width) * 2) s a c (getD old k 0) (getD new k 0)) e
+    (row-then bytes ((start + k * width) * 2) s a (at * 2) (count * 2) (getD old k 0) (getD mid k 0) (getD new k 0) (first k h)
+    (subst (λ (i : ℕ). RowAdded bytes i s (a + at * 2) (count * 2) (getD mid k 0) (getD new k 0)) p (second k (omega arith))))
+
+-- the same from the first word on
 pub rows-then : (bytes : List ℕ) (start from at count width : ℕ) (s old mid new : List ℕ) → from ≡ start + at → length mid ≡ length old
     → RowsAdded bytes start width s 0 (at * 2) old mid → RowsAdded bytes from width s (at * 2) (count * 2) mid new
     → RowsAdded bytes start width s 0 ((at + count) * 2) old new
-unfolding RowsAdded
-rows-then bytes start from at count width s old mid new place size first second k h =
-    let e : at * 2 + count * 2 ≡ (at + count) * 2 = omega arith in
-    let p : (from + k * width) * 2 ≡ (start + k * width) * 2 + at * 2 = omega arith in
-    subst (λ (c : ℕ). RowAdded bytes ((start + k * width) * 2) s 0 c (getD old k 0) (getD new k 0)) e
-    (row-then bytes ((start + k * width) * 2) s 0 (at * 2) (count * 2) (getD old k 0) (getD mid k 0) (getD new k 0) (first k h)
-    (subst (λ (i : ℕ). RowAdded bytes i s (0 + at * 2) (count * 2) (getD mid k 0) (getD new k 0)) p
-    (subst (λ (j : ℕ). RowAdded bytes ((from + k * width) * 2) s j (count * 2) (getD mid k 0) (getD new k 0)) (sym (zero-add (at * 2)))
-    (second k (omega arith)))))
+rows-then bytes start from at count width s old mid new place size first second =
+    rows-on bytes start from at count width s 0 old mid new place size first
+    (subst (λ (j : ℕ). RowsAdded bytes from width s j (count * 2) mid new) (sym (zero-add (at * 2))) second)

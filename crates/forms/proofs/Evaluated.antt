@@ -2,12 +2,13 @@
 -- and that the three tables give algorithm 10. Assumes nothing.
 use mathlib.Core.Path.{_≡_, refl, sym, ap, ap₂, _∙_}
 use mathlib.Core.List.{List, [], _∷_, _++_}
-use Prim.Native.Nat.{ℕ, zero, suc, _+_, _*_, _%_, _<_, max}
+use Prim.Native.Nat.{ℕ, _+_, _*_, _%_, _<_, max}
 use native.Mathlib.Numerals.{add-one}
 use native.Mathlib.Omega.{arith}
 use lib.Bits.{bitXor, xor-zero-l}
 use lib.ListN.{length, getD, drop, replicate, length-replicate}
 use lib.Seq.{drop-drop, ext-getD}
+use Rattle.memory.proofs.Xors.{getD-zeros}
 use Rattle.field.specs.Field.{mul}
 use Rattle.field.specs.Packing.{packedLength, nib, unpack}
 use Rattle.field.specs.ProductTable.{ProductTable}
@@ -36,7 +37,7 @@ sum-more products table n sum a b f g e ea eb =
 
 -- ---- a table of affine forms in the bytes
 
-forms-in : (n m : ℕ) (bytes : List ℕ) → Forms m (affineIn n m bytes)
+pub forms-in : (n m : ℕ) (bytes : List ℕ) → Forms m (affineIn n m bytes)
 unfolding affineIn
 forms-in n m bytes = record { constants = length-unpack m bytes; rows = length-rows-in n m (drop (packedLength m) bytes) }
 
@@ -65,11 +66,6 @@ module _ (old bytes : List ℕ) (start n : ℕ) (s : List ℕ) where
       ⊕-at old (affine (affineIn n (length old) (drop start bytes)) s) k ∙ ap (bitXor (old ! k)) (affine-in-at bytes start n (length old) s k h)
 
 -- added to zeros
-pub getD-zeros : (m k : ℕ) → _≡_ {A = ℕ} (getD (replicate m 0) k 0) 0
-getD-zeros zero k = refl
-getD-zeros (suc m) zero = refl
-getD-zeros (suc m) (suc k) = getD-zeros m k
-
 zeros-⊕ : (m : ℕ) (v : List ℕ) → length v ≡ m → replicate m 0 ⊕ v ≡ v
 zeros-⊕ m v e =
     let z : List ℕ = replicate m 0 in

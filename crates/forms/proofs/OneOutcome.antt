@@ -1,6 +1,6 @@
 -- Each public function of this crate has one outcome. A promise over every circuit that the bytes hold, and every sixteen vectors that the words hold, speaks of something: bytes hold the circuit that is read
 -- from them, and words their own lanes. That a word is below 2 ^ 64 is what the type of the entries, u64, says. Assumes nothing.
-use mathlib.Core.Path.{_≡_, refl, sym, ap, _∙_}
+use mathlib.Core.Path.{_≡_, sym, ap, _∙_}
 use mathlib.Core.List.{List}
 use Prim.Native.Nat.{ℕ}
 use lib.ListN.{length}
@@ -12,7 +12,8 @@ use Rattle.field.specs.Vectors.{_!_}
 use Rattle.lanes.specs.Lanes.{lane, Holds}
 use Rattle.lanes.proofs.OneOutcome.{Three, three-fix}
 use Rattle.forms.specs.Circuit.{Circuit, Evaluation}
-use Rattle.forms.specs.Room.{circuitIn, HoldsCircuit}
+use Rattle.forms.specs.Room.{circuitIn}
+use Rattle.forms.proofs.Room.{holds-circuit}
 use Rattle.forms.proofs.«circuit_len» as circuit-len
 use Rattle.forms.proofs.«tape_bytes» as tape-bytes
 use Rattle.forms.proofs.«hidden_party» as hidden-party
@@ -29,11 +30,6 @@ pub hidden-party-one-outcome : OneOutcome hidden-party.Kinds.ps hidden-party.Kin
 hidden-party-one-outcome κs a good asked o q x y = ap (λ (z : ℕ). (z, (tt, (tt, (tt, tt))))) (x .promised ∙ sym (y .promised))
 
 -- ---- what is there to speak of
-
--- bytes hold the circuit that is read from them
-pub holds-circuit : (n m : ℕ) (bytes : List ℕ) → HoldsCircuit n m (circuitIn n m bytes) bytes
-unfolding HoldsCircuit
-holds-circuit n m bytes = refl
 
 -- the vector that stands in lane q of the words
 pub inLane : List ℕ → ℕ → List ℕ

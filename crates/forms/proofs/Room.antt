@@ -11,7 +11,7 @@ use lib.Pow.{pow-mono}
 use lib.Seq.{take-at, drop-drop, drop-cons, getD-take}
 use Rattle.field.specs.Packing.{packedLength, nib, unpack}
 use Rattle.field.specs.Vectors.{_!_}
-use Rattle.field.proofs.Packing.{getD-unpack, unpack-same, nib-take, nib-drop, length-unpack}
+use Rattle.field.proofs.Packing.{half-up, getD-unpack, unpack-same, nib-take, nib-drop, length-unpack}
 use Rattle.sponge.specs.Sponge.{little, shake256}
 use Rattle.sponge.specs.Steps.{fresh, absorbed, finished, given, moved}
 use Rattle.sponge.proofs.Laws.{given-append, given-shake256, length-given, length-shake256, shake256-bytes}
@@ -43,11 +43,12 @@ sample-part x from n total h =
 
 -- ---- the circuit
 
--- the sizes as the code works them out
-pub half-up : (n : ℕ) → n / 2 + n % 2 ≡ packedLength n
-unfolding packedLength
-half-up n = omega arith
+-- bytes hold the circuit that is read from them
+pub holds-circuit : (n m : ℕ) (bytes : List ℕ) → HoldsCircuit n m (circuitIn n m bytes) bytes
+unfolding HoldsCircuit
+holds-circuit n m bytes = refl
 
+-- the sizes as the code works them out
 pub packed-holds : (n : ℕ) → n ≤ packedLength n * 2
 unfolding packedLength
 packed-holds n = omega arith

@@ -8,6 +8,7 @@ use native.Mathlib.Omega.{arith}
 use lib.Bits.{bitXor, xor-zero-l}
 use lib.ListN.{length, getD, drop, replicate, length-replicate, List·getD-eq-default}
 use lib.Seq.{drop-drop}
+use Rattle.memory.proofs.Xors.{getD-zeros}
 use Rattle.field.specs.Packing.{packedLength, nib, unpack}
 use Rattle.field.specs.Vectors.{_!_, dot}
 use Rattle.lanes.specs.Lanes.{lane, Holds}
@@ -17,7 +18,7 @@ use Rattle.forms.specs.Room.{affineIn, circuitIn, HoldsCircuit, HoldsFor
 use Rattle.forms.specs.Rows.{sumOf, RowAdded, RowsAdded}
 use Rattle.forms.proofs.Added.{sumOf-same, sumOf-stop}
 use Rattle.forms.proofs.Circuit.{linear-at}
-use Rattle.forms.proofs.Evaluated.{row-dot, getD-zeros}
+use Rattle.forms.proofs.Evaluated.{row-dot}
 use Rattle.forms.proofs.Room.{row-in}
 
 module _ (bytes : List ℕ) (n m : ℕ) (words : List ℕ) (share : ℕ → List ℕ) (size : length words ≡ n) (shares : Holds (λ q i. share q ! i) words) where

@@ -2,7 +2,7 @@
 -- The public promise does not cite these: it speaks of `linear` (specs/Circuit.antt). Assumes nothing.
 use mathlib.Core.List.{List}
 use mathlib.Core.Path.{_≡_}
-use Prim.Native.Nat.{ℕ, zero, suc, _+_, _*_, _/_, _%_, _<_}
+use Prim.Native.Nat.{ℕ, zero, suc, _+_, _*_, _/_, _%_, _≤_, _<_}
 use lib.Bits.{bitXor}
 use lib.ListN.{length, getD}
 use Rattle.field.specs.Field.{mul}
@@ -27,9 +27,11 @@ unfoldable pub PairsFrom : List ℕ → ℕ → ℕ → List ℕ → Type 0
 PairsFrom s a count t =
     (c b : ℕ) → c < count → b < 256 → PairValue (getD s (a + c * 2) 0) (getD s (a + c * 2 + 1) 0) b (getD t (c * 256 + b) 0)
 
--- the sum of the l-th word of `low` and the h-th of `high` stands at 16 h + l, for h below a count
-unfoldable pub SumsOf : List ℕ → List ℕ → ℕ → List ℕ → Type 0
-SumsOf low high count t = (h l : ℕ) → h < count → l < 16 → getD t (h * 16 + l) 0 ≡ bitXor (getD low l 0) (getD high h 0)
+-- the n words behind the first n of `new` are these with w added; the others are those of `old`
+pub record Spread (n w : ℕ) (old new : List ℕ) : Type 0 where
+  pub added : (k : ℕ) → k < n → getD new (n + k) 0 ≡ bitXor (getD old k 0) w
+  pub before : (k : ℕ) → k < n → getD new k 0 ≡ getD old k 0
+  pub behind : (k : ℕ) → n + n ≤ k → getD new k 0 ≡ getD old k 0
 
 -- `new` is `old` with, in each lane, the sum of `count` coefficients, from the half byte i of the bytes on, times the words from the place a of s on
 unfoldable pub RowAdded : List ℕ → ℕ → List ℕ → ℕ → ℕ → ℕ → ℕ → Type 0

@@ -3,9 +3,8 @@
 ghost use mathlib.Core.Path.{_≡_};
 ghost use mathlib.Core.List.{List};
 ghost use Prim.Native.Nat.{ℕ, _+_, _-_, _*_, _≤_, _<_, min};
-ghost use lib.Bits.{bitXor};
 ghost use lib.ListN.{length, getD};
-ghost use Rattle.forms.specs.Rows.{PairsOf, PairsFrom, SumsOf, RowAdded, RowsAdded};
+ghost use Rattle.forms.specs.Rows.{PairsOf, PairsFrom, Spread, RowAdded, RowsAdded};
 
 // The bytes of a row in a block of columns.
 const BLOCK: usize = 8;
@@ -105,41 +104,29 @@ fn word_or_zero(words: &[u64], i: usize) -> u64
     if i < words.len() { words[i] } else { 0 }
 }
 
-// The sums of the multiples of two words, for every byte.
+// The sums of the multiples of two words, for every byte: those of `u` alone, then twice as many at each step.
 fn pair(u: u64, v: u64, out: &mut [u64])
     requires { ⌜ length (now out) ≡ 256 ⌝ }
     ensures { λ r. ⌜ PairsOf u v (now (out .exit)) ⌝ }
 {
-    let mut low = [0u64; 16];
     let mut high = [0u64; 16];
-    lanes::multiples(u, &mut low);
     lanes::multiples(v, &mut high);
-    sums(&low, &high, out);
+    lanes::multiples(u, &mut out[0..16]);
+    spread(out, 16, high[1]);
+    spread(out, 32, high[2]);
+    spread(out, 64, high[4]);
+    spread(out, 128, high[8]);
 }
 
-// The sums of each word of `low` and each of `high`.
-fn sums(low: &[u64], high: &[u64], out: &mut [u64])
-    requires { ⌜ (length (now low) ≡ 16) × (length (now high) ≡ 16) × (length (now out) ≡ 256) ⌝ }
-    ensures { λ r. ⌜ SumsOf (now (low .entry)) (now (high .entry)) 16 (now (out .exit)) ⌝ }
+// The sums of each of the first n words and one word, written behind these.
+fn spread(out: &mut [u64], n: usize, w: u64)
+    requires { ⌜ n + n ≤ length (now out) ⌝ }
+    ensures { λ r. ⌜ Spread n w (now (out .entry)) (now (out .exit)) ⌝ }
 {
-    let mut h = 0;
-    while h < 16 {
-        let a = h * 16;
-        let e = a + 16;
-        add_word(low, high[h], &mut out[a..e]);
-        h += 1;
-    }
-}
-
-// The sums of each of sixteen words and one word.
-fn add_word(words: &[u64], w: u64, out: &mut [u64])
-    requires { ⌜ (length (now words) ≡ 16) × (length (now out) ≡ 16) ⌝ }
-    ensures { λ r. ⌜ ((l : ℕ) → l < 16 → getD (now (out .exit)) l 0 ≡ bitXor (getD (now (words .entry)) l 0) w) ⌝ }
-{
-    let mut l = 0;
-    while l < 16 {
-        out[l] = words[l] ^ w;
-        l += 1;
+    let mut k = 0;
+    while k < n {
+        out[n + k] = out[k] ^ w;
+        k += 1;
     }
 }
 
@@ -155,56 +142,71 @@ fn add_rows(
     requires { ⌜ (start + length (now out) * width ≤ length (now circuit) + (width - count)) × (count ≤ width) × (width < 4096) × (count * 256 ≤ length (now pairs)) ⌝ }
     ensures { λ r. ⌜ ((s : List ℕ) (a : ℕ) → PairsFrom s a count (now (pairs .entry)) → RowsAdded (now (circuit .entry)) start width s a (count * 2) (now (out .entry)) (now (out .exit))) ⌝ }
 {
+    if count == BLOCK {
+        add_block_rows(circuit, start, width, pairs, out);
+        return;
+    }
+    let mut i = 0;
+    while i < count {
+        let a = i * 256;
+        let e = a + 256;
+        add_byte_rows(circuit, start + i, width, &pairs[a..e], out);
+        i += 1;
+    }
+}
+
+// Adds to each word of `out` the value of one byte of its row.
+fn add_byte_rows(circuit: &[u8], start: usize, width: usize, sums: &[u64], out: &mut [u64])
+    requires { ⌜ (start + length (now out) * width < length (now circuit) + width) × (width < 4096) × (length (now sums) ≡ 256) ⌝ }
+    ensures { λ r. ⌜ ((s : List ℕ) (a : ℕ) → PairsOf (getD s a 0) (getD s (a + 1) 0) (now (sums .entry)) → RowsAdded (now (circuit .entry)) start width s a 2 (now (out .entry)) (now (out .exit))) ⌝ }
+{
     let mut k = 0;
     let mut from = start;
     while k < out.len() {
-        let e = from + count;
-        out[k] = add_row(out[k], &circuit[from..e], pairs);
+        out[k] = out[k] ^ pick(sums, circuit[from]);
         from += width;
         k += 1;
     }
 }
 
-// The word x with the value of a row's bytes added: each byte picks its pair's sum.
-fn add_row(x: u64, bytes: &[u8], pairs: &[u64]) -> u64
-    requires { ⌜ length (now bytes) * 256 ≤ length (now pairs) ⌝ }
-    ensures { λ r. ⌜ ((s : List ℕ) (a : ℕ) → PairsFrom s a (length (now (bytes .entry))) (now (pairs .entry)) → RowAdded (now (bytes .entry)) 0 s a (length (now (bytes .entry)) * 2) x r) ⌝ }
+// Adds to each word of `out` the value of a block's bytes of its row.
+fn add_block_rows(circuit: &[u8], start: usize, width: usize, pairs: &[u64], out: &mut [u64])
+    requires { ⌜ (start + length (now out) * width + 8 ≤ length (now circuit) + width) × (width < 4096) × (2048 ≤ length (now pairs)) ⌝ }
+    ensures { λ r. ⌜ ((s : List ℕ) (a : ℕ) → PairsFrom s a 8 (now (pairs .entry)) → RowsAdded (now (circuit .entry)) start width s a 16 (now (out .entry)) (now (out .exit))) ⌝ }
 {
-    if bytes.len() == BLOCK {
-        return add_block_row(x, bytes, pairs);
+    let mut k = 0;
+    let mut from = start;
+    while k < out.len() {
+        let e = from + BLOCK;
+        out[k] = add_block_row(out[k], &circuit[from..e], pairs);
+        from += width;
+        k += 1;
     }
-    let mut sum = x;
-    let mut i = 0;
-    while i < bytes.len() {
-        let b = wide(bytes[i]);
-        sum = sum ^ pairs[i * 256 + b];
-        i += 1;
-    }
-    sum
 }
 
-// The same for the bytes of a whole block, straight on.
+// The word x with the value of a block's bytes added, straight on: each byte picks its pair's sum.
 fn add_block_row(x: u64, bytes: &[u8], pairs: &[u64]) -> u64
     requires { ⌜ (length (now bytes) ≡ 8) × (2048 ≤ length (now pairs)) ⌝ }
-    ensures { λ r. ⌜ ((s : List ℕ) (a : ℕ) → PairsFrom s a (length (now (bytes .entry))) (now (pairs .entry)) → RowAdded (now (bytes .entry)) 0 s a (length (now (bytes .entry)) * 2) x r) ⌝ }
+    ensures { λ r. ⌜ ((s : List ℕ) (a : ℕ) → PairsFrom s a 8 (now (pairs .entry)) → RowAdded (now (bytes .entry)) 0 s a 16 x r) ⌝ }
 {
-    let b0 = wide(bytes[0]);
-    let b1 = wide(bytes[1]);
-    let b2 = wide(bytes[2]);
-    let b3 = wide(bytes[3]);
-    let b4 = wide(bytes[4]);
-    let b5 = wide(bytes[5]);
-    let b6 = wide(bytes[6]);
-    let b7 = wide(bytes[7]);
-    x
-        ^ pairs[b0]
-        ^ pairs[256 + b1]
-        ^ pairs[512 + b2]
-        ^ pairs[768 + b3]
-        ^ pairs[1024 + b4]
-        ^ pairs[1280 + b5]
-        ^ pairs[1536 + b6]
-        ^ pairs[1792 + b7]
+    let p0 = pick(&pairs[0..256], bytes[0]);
+    let p1 = pick(&pairs[256..512], bytes[1]);
+    let p2 = pick(&pairs[512..768], bytes[2]);
+    let p3 = pick(&pairs[768..1024], bytes[3]);
+    let p4 = pick(&pairs[1024..1280], bytes[4]);
+    let p5 = pick(&pairs[1280..1536], bytes[5]);
+    let p6 = pick(&pairs[1536..1792], bytes[6]);
+    let p7 = pick(&pairs[1792..2048], bytes[7]);
+    x ^ p0 ^ p1 ^ p2 ^ p3 ^ p4 ^ p5 ^ p6 ^ p7
+}
+
+// The sum that a byte picks of its pair's 256.
+fn pick(sums: &[u64], b: u8) -> u64
+    requires { ⌜ length (now sums) ≡ 256 ⌝ }
+    ensures { λ r. ⌜ (b < 256) × (r ≡ getD (now (sums .entry)) b 0) ⌝ }
+{
+    let i = wide(b);
+    sums[i]
 }
 
 // A byte as a place.

@@ -2,7 +2,7 @@
 -- Assumes nothing.
 use mathlib.Core.Bool.{Bool, true, false, cond}
 use mathlib.Core.List.{List, []}
-use mathlib.Core.Path.{_≡_, refl, sym, ap, ap₂, subst, _∙_}
+use mathlib.Core.Path.{_≡_, sym, ap, ap₂, subst, _∙_}
 use Prim.Native.Nat.{ℕ, suc, _+_, _-_, _*_, _/_, _%_, _≤_, _<_}
 use native.Mathlib.Nat.{mul-zero, mul-one, zero-add}
 use native.Mathlib.Omega.{arith}
@@ -10,6 +10,7 @@ use lib.Bits.{bitXor, xor-zero-l, xor-zero-r}
 use lib.Dec.{eqb}
 use lib.ListN.{length, getD, take, drop}
 use lib.Seq.{length-take-le}
+use Rattle.memory.proofs.Parts.{getD-part}
 use Rattle.field.specs.Field.{mul}
 use Rattle.field.specs.Packing.{nib}
 use Rattle.field.specs.Vectors.{_!_}
@@ -18,13 +19,12 @@ use Rattle.lanes.specs.Lanes.{lane, Holds}
 use Rattle.marks.specs.Marks.{Mark, EachWord, MarkedWord, MultipliedWord, ClearedWord, Marked, MarkedBytes, Multiplied, Cleared}
 use Rattle.marks.proofs.Marks.{others-lane}
 use Rattle.forms.specs.Circuit.{Affine, Circuit, affineLength, linear, formsOf}
-use Rattle.forms.specs.Room.{affineIn, circuitIn, HoldsCircuit, HoldsForms}
+use Rattle.forms.specs.Room.{affineIn, circuitIn, HoldsForms}
 use Rattle.forms.proofs.Room.{constant-in, affine-size}
 use Rattle.parties.specs.Parties.{Share}
 use Rattle.group.specs.declared.Rep.{Rep}
 use Rattle.group.specs.Shares.{epsilon, target, alphaGiven, maskAt, helperAt, HoldsShares, HoldsParts, HoldsAnswers, AlphaWords, RestWords}
 use Rattle.group.proofs.OneParty.{formsOf-at, alpha-at, second-form-at, rest-at}
-use Rattle.group.proofs.Shares.{part-at}
 
 -- ---- the forms
 
@@ -53,11 +53,6 @@ module _ (g mark m : ℕ) (marked : Mark g 1 mark) (share : ℕ → List ℕ) wh
         (λ k h. ap (λ (j : ℕ). nib bytes ((j + j) * 2 + k)) es
         ∙ sym (constant-in n m (drop (affineLength n m + affineLength n m) bytes) k h ∙ nib-drop (affineLength n m + affineLength n m) bytes k)) lz ez (held .A0) az;
   }
-
--- bytes hold the circuit that lies in them
-pub holds-own : (n m : ℕ) (bytes : List ℕ) → HoldsCircuit n m (circuitIn n m bytes) bytes
-unfolding HoldsCircuit
-holds-own n m bytes = refl
 
 -- ---- α and z·ε + c
 
@@ -136,7 +131,7 @@ answers-held rep g hide f v words share a b c e x₀ y₀ z₀ x y z hidden ea e
       alphas k q (omega arith) hq
       ∙ ap₂ (λ (s w : ℕ). cond (eqb (suc (16 * g + q)) (rep .hidden)) (alphaGiven rep v ! k) (bitXor (mul s (epsilon rep v ! k)) w))
       (parts .A1 k q (omega arith) hq)
-      (ap (lane q) (part-at words a b k (omega arith) ∙ ap (λ (j : ℕ). getD words (j + k) 0) ea) ∙ shares .a k q (omega arith) hq)
+      (ap (lane q) (getD-part words a b k (omega arith) ∙ ap (λ (j : ℕ). getD words (j + k) 0) ea) ∙ shares .a k q (omega arith) hq)
       ∙ alpha-at f (suc (16 * g + q)) (rep .hidden) (share q) k (epsilon rep v) (alphaGiven rep v);
   second-form = λ k q hk hq.
       clear-ed k (omega arith) q hq
@@ -146,7 +141,7 @@ answers-held rep g hide f v words share a b c e x₀ y₀ z₀ x y z hidden ea e
       rests k q (omega arith) hq
       ∙ ap₂ (λ (s w : ℕ). cond (eqb (suc (16 * g + q)) (rep .hidden)) 0 (bitXor (mul (bitXor s (cond (eqb (suc (16 * g + q)) 1) 0 (target rep v ! k))) (epsilon rep v ! k)) w))
       (parts .A0 k q (omega arith) hq)
-      (ap (lane q) (part-at words c e k (omega arith) ∙ ap (λ (j : ℕ). getD words (j + k) 0) ec) ∙ shares .c k q (omega arith) hq)
+      (ap (lane q) (getD-part words c e k (omega arith) ∙ ap (λ (j : ℕ). getD words (j + k) 0) ec) ∙ shares .c k q (omega arith) hq)
       ∙ rest-at f (suc (16 * g + q)) (rep .hidden) (share q) k (target rep v) (epsilon rep v);
 }
 
@@ -156,4 +151,4 @@ pub held-part : (rep : Rep) (share : ℕ → Share) (words : List ℕ) → rep .
 unfolding Holds
 held-part rep share words room h k q hk hq =
     let l = length-take-le (rep .n - 0) (drop 0 words) (omega arith) in
-    ap (lane q) (part-at words 0 (rep .n) k (omega arith) ∙ ap (λ (j : ℕ). getD words j 0) (zero-add k)) ∙ h .s k q (omega arith) hq
+    ap (lane q) (getD-part words 0 (rep .n) k (omega arith) ∙ ap (λ (j : ℕ). getD words j 0) (zero-add k)) ∙ h .s k q (omega arith) hq

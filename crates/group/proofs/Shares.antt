@@ -9,16 +9,17 @@ use native.Mathlib.Decide.{decLt}
 use native.Mathlib.Omega.{arith}
 use lib.Bits.{bitXor}
 use lib.Dec.{eqb, lit<}
-use lib.ListN.{length, getD, take, drop, length-take, length-drop, List·getD-eq-default}
-use lib.Seq.{getD-take, getD-drop, length-take-le}
+use lib.ListN.{length, getD, take, drop, length-take, List·getD-eq-default}
+use lib.Seq.{length-take-le}
 use Rattle.memory.specs.Lists.{put}
-use Rattle.memory.proofs.Parts.{length-put, lent-put, getD-put-before, getD-put-in, getD-put-after}
+use Rattle.memory.proofs.Parts.{length-put, lent-put, length-lent, getD-part, getD-put-before, getD-put-in, getD-put-after}
 use Rattle.field.specs.Packing.{Elements, nib, unpack, packedLength}
 use Rattle.field.specs.Vectors.{_!_, _⊕_}
-use Rattle.field.proofs.Packing.{getD-unpack, nib-drop, nib-past}
+use Rattle.field.proofs.Packing.{half-up, getD-unpack, nib-drop, nib-past}
 use Rattle.lanes.specs.Lanes.{lane, Holds, Turned}
 use Rattle.lanes.proofs.Packed.{turned-holds}
 use Rattle.marks.specs.Marks.{Mark, EachWord, MarkedWord, Marked}
+use Rattle.sets.specs.declared.Params.{Params}
 use Rattle.sponge.specs.Sponge.{shake256}
 use Rattle.sponge.proofs.Laws.{length-shake256}
 use Rattle.hashes.specs.Hashes.{tapeFields}
@@ -31,24 +32,13 @@ use Rattle.group.specs.declared.Rep.{Rep}
 use Rattle.group.specs.Shares.{Sized, deltaS, deltaC, tapeLength, sampled, HoldsTapes, maskAt, helperAt, HoldsShares, paramsIn, shareAt, HoldsAnswers}
 use Rattle.group.proofs.OneParty.{corrected-s-at, corrected-a-at, corrected-c-at}
 
--- an entry of a part
-pub part-at : (l : List ℕ) (a e k : ℕ) → k < e - a → getD (take (e - a) (drop a l)) k 0 ≡ getD l (a + k) 0
-part-at l a e k h = getD-take (e - a) (drop a l) k 0 h ∙ getD-drop a l k 0
-
--- a part of elements, and its length
+-- a part of elements
 pub elements-part : (l : List ℕ) (a e : ℕ) → Elements l → Elements (take (e - a) (drop a l))
 elements-part l a e h i =
     elim (decLt i (e - a)) as (λ d. getD (take (e - a) (drop a l)) i 0 < 16) [
-      | yes y ↦ rw (part-at l a e i y) (h (a + i))
+      | yes y ↦ rw (getD-part l a e i y) (h (a + i))
       | no y ↦ rw (List·getD-eq-default (take (e - a) (drop a l)) 0 {n = i} (let s = length-take (e - a) (drop a l) in omega arith)) (lit< tt)
     ]
-
-pub part-sized : (l : List ℕ) (a n : ℕ) → a + n ≤ length l → length (take (a + n - a) (drop a l)) ≡ n
-part-sized l a n h = length-take-le (a + n - a) (drop a l) (simp length-drop (omega arith)) ∙ (let e : a + n - a ≡ n = omega arith in e)
-
-pub half-up : (n : ℕ) → n / 2 + n % 2 ≡ packedLength n
-unfolding packedLength
-half-up n = omega arith
 
 -- what a tape gives is laid over the start of the bytes
 pub filled-tape : (bytes last fields : List ℕ) (n len : ℕ) → n ≡ len → len ≤ length bytes
@@ -61,6 +51,11 @@ filled-tape bytes last fields n len e room el =
 
     whole : last ≡ shake256 fields len
     whole = el ∙ ap (shake256 fields) part
+
+-- the shares of a tape depend on the sizes alone
+pub raw-same : (P Q : Params) (salt : List ℕ) (e i : ℕ) (seed : List ℕ) → P .n ≡ Q .n → P .m ≡ Q .m → rawShare P salt e i seed ≡ rawShare Q salt e i seed
+unfolding rawShare
+raw-same P Q salt e i seed en em = rw (en, em)
 
 module _ (rep : Rep) where
   -- ---- where things stand
@@ -97,7 +92,7 @@ module _ (rep : Rep) where
   unfolding maskAt helperAt packedLength
   helper-after = omega arith
 
-  pub words-room : Sized rep → helperAt rep + rep .m ≤ 368
+  words-room : Sized rep → helperAt rep + rep .m ≤ 368
   unfolding helperAt packedLength
   words-room z = let a = z .variables in let b = z .equations in omega arith
 
@@ -172,7 +167,7 @@ module _ (rep : Rep) where
     length-more =
         let a = words-room z in
         let f : length first ≡ length words = ap length first-put ∙ length-put words 0 new new-fits in
-        more-length ∙ length-take-le (e - c) (drop c first) (simp length-drop (omega arith))
+        more-length ∙ length-lent first c e (omega arith) (omega arith)
 
     last-put : last ≡ put (put words 0 new) c more
     last-put = lent-put first c e more length-more ∙ ap (λ (l : List ℕ). put l c more) first-put
@@ -209,7 +204,7 @@ module _ (rep : Rep) where
         let d = length-new in
         let a = mask-after in
         let b = helper-after in
-        part-at first c e k (omega arith)
+        getD-part first c e k (omega arith)
         ∙ ap (λ (l : List ℕ). getD l (c + k) 0) first-put
         ∙ getD-put-after words 0 new new-fits (c + k) (omega arith)
 
@@ -221,7 +216,7 @@ module _ (rep : Rep) where
     unfolding Marked EachWord deltaS
     s-word k h =
         let a = z .variables in
-        subst (λ (x : ℕ). MarkedWord (take (rep .n) v ! k) mark x (getD new k 0)) (part-at words 0 (rep .n) k (omega arith) ∙ ap (λ (j : ℕ). getD words j 0) (zero-add k))
+        subst (λ (x : ℕ). MarkedWord (take (rep .n) v ! k) mark x (getD new k 0)) (getD-part words 0 (rep .n) k (omega arith) ∙ ap (λ (j : ℕ). getD words j 0) (zero-add k))
         (subst (λ (j : ℕ). MarkedWord (take j v ! k) mark (getD (take (rep .n - 0) (drop 0 words)) k 0) (getD new k 0)) (sub-zero (rep .n))
         (s-added k (rw (length-take-le (rep .n - 0) (drop 0 words) (omega arith)) (omega arith))))
 

@@ -1,8 +1,8 @@
 -- The words of tapes, stored sixteen words apart, one tape after another. Assumes nothing.
 use mathlib.Core.List.{List}
 use mathlib.Core.Path.{_≡_, refl, sym, ap, ap₂, subst, _∙_}
-use Prim.Native.Nat.{ℕ, zero, suc, _+_, _-_, _*_, _/_, _%_, _^_, _≤_, _<_}
-use native.Mathlib.Nat.{zero-add, zero-div}
+use Prim.Native.Nat.{ℕ, suc, _+_, _-_, _*_, _≤_, _<_}
+use native.Mathlib.Nat.{zero-add}
 use native.Mathlib.Decide.{decLt, ℕ-discrete}
 use native.Mathlib.Numerals.{add-one}
 use native.Mathlib.Omega.{arith}
@@ -11,7 +11,7 @@ use lib.Seq.{getD-set-same, getD-set-other}
 use Rattle.memory.specs.Lists.{put}
 use Rattle.memory.proofs.Lists.{room}
 use Rattle.field.specs.Packing.{nib}
-use Rattle.field.proofs.Packing.{nib-past}
+use Rattle.field.proofs.Packing.{nib-past, nib-zeros}
 use Rattle.lanes.specs.Lanes.{lane, WordAt}
 use Rattle.lanes.proofs.Bytes.{nib-put-in, nib-put-after}
 use Rattle.sponge.specs.Sponge.{shake256}
@@ -50,18 +50,6 @@ pub stored-all : (n q : ℕ) (tape before after : List ℕ) → 23 ≤ n → Sto
 stored-all n q tape before after h s = record { own = λ w j hw hj. s .own w j (omega arith) hj; others = s .others }
 
 -- ---- a tape over the start of zeros reads as the tape
-
-getD-zeros : (n i : ℕ) → _≡_ {A = ℕ} (getD (replicate n 0) i 0) 0
-getD-zeros zero i = refl
-getD-zeros (suc n) zero = refl
-getD-zeros (suc n) (suc i) = getD-zeros n i
-
-zero-nib : (j : ℕ) → 0 / 16 ^ j % 16 ≡ 0
-zero-nib j = ap (λ (x : ℕ). x % 16) (zero-div (16 ^ j))
-
-nib-zeros : (n i : ℕ) → nib (replicate n 0) i ≡ 0
-unfolding nib
-nib-zeros n i = ap (λ (x : ℕ). x / 16 ^ (i % 2) % 16) (getD-zeros n (i / 2)) ∙ zero-nib (i % 2)
 
 nib-padded : (n : ℕ) (tape : List ℕ) (i : ℕ) → length tape ≤ n → nib (put (replicate n 0) 0 tape) i ≡ nib tape i
 nib-padded n tape i h =

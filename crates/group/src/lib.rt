@@ -67,7 +67,7 @@ fn sixteen_tapes(rep: Rep, g: usize, salt: &[u8], leaves: &[u8], tapes: &mut [u6
 }
 
 // The tape of party i, as lane q.
-pub fn one_tape(rep: Rep, salt: &[u8], i: usize, seed: &[u8], q: usize, tapes: &mut [u64])
+fn one_tape(rep: Rep, salt: &[u8], i: usize, seed: &[u8], q: usize, tapes: &mut [u64])
     requires { ⌜ (Sized rep) × (q < 16) × (length (now salt) ≤ 64) × (length (now seed) ≤ 32) × (length (now tapes) ≡ 368) ⌝ }
     ensures { λ r. ⌜ TapeStored q (shake256 (tapeFields (now (salt .entry)) (rep .e) i (now (seed .entry))) (tapeLength rep)) (now (tapes .entry)) (now (tapes .exit)) ⌝ }
 {
@@ -98,7 +98,7 @@ fn scatter(bytes: &[u8], q: usize, tapes: &mut [u64])
 }
 
 // α, y and z·ε + c of sixteen parties from their tapes.
-pub fn of_tapes(
+fn of_tapes(
     rep: Rep,
     g: usize,
     circuit: &[u8],

@@ -6,9 +6,9 @@ use Prim.Native.Nat.{ℕ, _+_, _-_, _*_, _/_, _≤_, _<_}
 use native.Mathlib.Nat.{zero-add}
 use native.Mathlib.Omega.{arith}
 use lib.ListN.{length, getD, take, drop, length-drop, List·getD-append}
-use lib.Seq.{getD-take, getD-drop, length-take-le}
+use lib.Seq.{length-take-le}
 use Rattle.memory.specs.Lists.{over, put}
-use Rattle.memory.proofs.Parts.{lent-put, length-put, getD-put-before, getD-put-in, over-fits, length-over}
+use Rattle.memory.proofs.Parts.{lent-put, getD-part, length-put, getD-put-before, getD-put-in, over-fits, length-over}
 use Rattle.lanes.specs.Lanes.{lane, Turned}
 use Rattle.lanes.specs.Parties.{blocksEnd, TurnedBack}
 
@@ -16,10 +16,6 @@ use Rattle.lanes.specs.Parties.{blocksEnd, TurnedBack}
 pub getD-over : (new old : List ℕ) (i : ℕ) → length new ≤ length old → i < length new → getD (over new old) i 0 ≡ getD new i 0
 getD-over new old i h g =
     ap (λ (l : List ℕ). getD l i 0) (over-fits new old h) ∙ List·getD-append new (drop (length new) old) 0 i g
-
--- an entry of a part
-pub getD-part : (l : List ℕ) (a e i : ℕ) → i < e - a → getD (take (e - a) (drop a l)) i 0 ≡ getD l (a + i) 0
-getD-part l a e i h = getD-take (e - a) (drop a l) i 0 h ∙ getD-drop a l i 0
 
 -- what the calls leave: the padded words, with the last sixteen behind the blocks, and the turned words
 module _ (words padded turned cs ys : List ℕ) (n : ℕ) (h16 : 16 ≤ length words) (h144 : length words ≤ 144)

@@ -4,15 +4,11 @@ use mathlib.Core.List.{List, _++_}
 use Prim.Native.Nat.{ℕ, _+_, _-_, _*_, _%_, _≤_, _<_}
 use native.Mathlib.Decide.{decLe}
 use native.Mathlib.Omega.{arith}
-use lib.ListN.{length, getD, take, drop, length-append, length-take, length-drop}
+use lib.ListN.{length, getD, take, drop}
 use lib.Seq.{getD-take, getD-drop}
 use Rattle.memory.specs.Lists.{put}
 use Rattle.memory.proofs.Parts.{lent-put, getD-put-before, getD-put-in}
 use Rattle.lanes.specs.Lanes.{lane, Transposed, Turned}
-
--- a list keeps its length when a part of it is lent and comes back
-pub length-part : (l new : List ℕ) (a e : ℕ) → a ≤ e → e ≤ length l → length new ≡ e - a → length (take a l ++ (new ++ drop (e - a) (drop a l))) ≡ length l
-length-part l new a e h k n = simp (length-append, length-take, length-drop) (omega arith)
 
 -- the groups that end at or before n are turned
 pub TurnedTo : ℕ → List ℕ → List ℕ → Type 0

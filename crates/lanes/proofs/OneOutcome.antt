@@ -10,11 +10,11 @@ use lib.ListN.{length, getD, drop}
 use Rattle.memory.specs.Outcome.{OneOutcome}
 use Rattle.memory.proofs.Words.{Below}
 use Rattle.field.specs.Packing.{Bytes, nib}
-use Rattle.field.proofs.Packing.{nib-drop}
+use Rattle.field.proofs.Packing.{nib-drop, bytes-by-halves}
 use Rattle.lanes.specs.Lanes.{lane, Holds, Times, Multiples, Transposed, WordAt}
 use Rattle.lanes.specs.Parties.{PartiesPacked}
 use Rattle.lanes.proofs.Laws.{lanes-fix}
-use Rattle.lanes.proofs.Packed.{nibs-fix, words-fix, turned-holds}
+use Rattle.lanes.proofs.Packed.{words-fix, turned-holds}
 use Rattle.lanes.proofs.times as times
 use Rattle.lanes.proofs.multiples as multiples
 use Rattle.lanes.proofs.«word_at» as word-at
@@ -50,7 +50,7 @@ three-fix f g h v w d e n hv hw p r =
 
 -- bytes that agree in every half byte in front of a place, and in all that lies behind it, are one list
 pub bytes-in-front : (n : ℕ) (x y : List ℕ) → length x ≡ length y → Bytes x → Bytes y → ((i : ℕ) → i < n * 2 → nib x i ≡ nib y i) → drop n x ≡ drop n y → x ≡ y
-bytes-in-front n x y e hx hy front rest = nibs-fix x y hx hy e (λ i l. half i)
+bytes-in-front n x y e hx hy front rest = bytes-by-halves x y hx hy e (λ i l. half i)
   where
     behind : (i : ℕ) → nib x (n * 2 + i) ≡ nib y (n * 2 + i)
     behind i = sym (nib-drop n x i) ∙ ap (λ (l : List ℕ). nib l i) rest ∙ nib-drop n y i

@@ -1,4 +1,4 @@
--- The bytes of sixteen parties are the packing of their vectors, one after another; bytes are fixed by their elements, and words by their lanes.
+-- The bytes of sixteen parties are the packing of their vectors, one after another; words are fixed by their lanes.
 -- Assumes nothing.
 use mathlib.Core.Path.{_≡_, sym, ap, ap₂, _∙_, subst}
 use mathlib.Core.List.{List, [], _∷_, _++_, flatten}
@@ -12,7 +12,7 @@ use lib.Seq.{ext-getD, getD-append-add, getD-take, length-take-le}
 use Rattle.memory.specs.Lists.{over}
 use Rattle.memory.proofs.Parts.{over-fits}
 use Rattle.field.specs.Packing.{Bytes, nib, pack, packedLength}
-use Rattle.field.proofs.Packing.{nib-even, nib-odd, nib-take, nib-pack, length-pack, pack-lt}
+use Rattle.field.proofs.Packing.{nib-take, bytes-by-halves, nib-pack, length-pack, pack-lt}
 use Rattle.lanes.specs.Lanes.{lane, Holds, Turned}
 use Rattle.lanes.specs.Parties.{PartiesPacked}
 use Rattle.lanes.proofs.Laws.{lane-lt, lanes-fix}
@@ -41,17 +41,6 @@ module _ (m : ℕ) where
       rw f (getD-append-add v (flatten vs) (m * q + k) 0 ∙ getD-flatten vs (λ q l. h (suc q) (omega arith)) q k (omega arith) g)
 
 -- ---- bytes by elements
-
-byte-nibs : (b : List ℕ) → Bytes b → (i : ℕ) → getD b i 0 ≡ nib b (i * 2) + 16 * nib b (i * 2 + 1)
-byte-nibs b h i = let l = h i in rw (nib-even b i, nib-odd b i) (omega arith)
-
--- bytes are fixed by their elements
-pub nibs-fix : (b c : List ℕ) → Bytes b → Bytes c → length b ≡ length c → ((i : ℕ) → i < length b * 2 → nib b i ≡ nib c i) → b ≡ c
-nibs-fix b c hb hc e h =
-    ext-getD 0 b c e (λ i l.
-    byte-nibs b hb i
-    ∙ ap₂ (λ (x y : ℕ). x + 16 * y) (h (i * 2) (omega arith)) (h (i * 2 + 1) (omega arith))
-    ∙ sym (byte-nibs c hc i))
 
 module _ (words before after : List ℕ) (p : PartiesPacked words before after) where
   -- what the words hold, the bytes hold
@@ -88,7 +77,7 @@ module _ (words before after : List ℕ) (p : PartiesPacked words before after) 
     pub packed-front : take (8 * length words) after ≡ pack (flatten vs)
     packed-front =
         let n = length-take-le (8 * length words) after room in
-        nibs-fix (take (8 * length words) after) (pack (flatten vs)) front (pack-lt (flatten vs)) (n ∙ sym length-packed)
+        bytes-by-halves (take (8 * length words) after) (pack (flatten vs)) front (pack-lt (flatten vs)) (n ∙ sym length-packed)
         (λ i h. nib-take (8 * length words) after i (omega arith) ∙ element i (omega arith))
       where
         front : Bytes (take (8 * length words) after)

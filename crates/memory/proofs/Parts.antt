@@ -80,6 +80,24 @@ unfolding put
 lent-put old a e new h =
     ap (λ (l : List ℕ). take a old ++ (new ++ l)) (drop-drop (e - a) a old ∙ ap (λ (k : ℕ). drop (a + k) old) (sym h))
 
+-- a part that is lent from a to e is as long as it is lent
+pub length-lent : (x : List ℕ) (a e : ℕ) → a ≤ e → e ≤ length x → length (take (e - a) (drop a x)) ≡ e - a
+length-lent x a e h k = length-take-le (e - a) (drop a x) (simp length-drop (omega arith))
+
+-- an entry of it
+pub getD-part : (x : List ℕ) (a e i : ℕ) → i < e - a → getD (take (e - a) (drop a x)) i 0 ≡ getD x (a + i) 0
+getD-part x a e i h = getD-take (e - a) (drop a x) i 0 h ∙ getD-drop a x i 0
+
+-- the list with `new` in the place of the part from a to e
+abbrev pub back : List ℕ → ℕ → ℕ → List ℕ → List ℕ
+back x a e new = take a x ++ (new ++ drop (e - a) (drop a x))
+
+-- it is as long as it was, where the part comes back as long as it was
+pub length-back : (x new : List ℕ) (a e : ℕ) → a ≤ e → e ≤ length x → length new ≡ e - a → length (back x a e new) ≡ length x
+length-back x new a e h k n =
+    let z = length-take-le a x (omega arith) in
+    simp (length-append, length-drop) (omega arith)
+
 -- a part put back as it was
 pub put-same : (old : List ℕ) (at n : ℕ) → at + n ≤ length old → put old at (take n (drop at old)) ≡ old
 unfolding put

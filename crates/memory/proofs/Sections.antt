@@ -6,11 +6,11 @@ use Prim.Native.Nat.{ℕ, zero, suc, _+_, _-_, _*_, _≤_, _<_}
 use native.Mathlib.Nat.{add-zero, zero-add, suc-mul, zero-mul, sub-zero}
 use native.Mathlib.Omega.{arith}
 use lib.ListN.{length, getD, take, drop, replicate, length-replicate, length-append, length-drop, take-append-drop}
-use lib.Seq.{ext-getD, take-append-le, drop-append-le, take-at, drop-at, take-nil, take-take, drop-drop, length-take-le}
+use lib.Seq.{ext-getD, take-append-le, drop-append-le, take-at, drop-at, take-nil, take-take, drop-drop}
 use Rattle.memory.specs.Lists.{over, put}
 use Rattle.memory.specs.Sections.{pieces}
 use Rattle.memory.proofs.Lists.{room}
-use Rattle.memory.proofs.Parts.{lent-put, take-put, from-put}
+use Rattle.memory.proofs.Parts.{lent-put, length-lent, take-put, from-put}
 use Rattle.memory.proofs.Stores.{over-whole}
 
 -- ---- parts
@@ -64,20 +64,14 @@ pub copied-part : (x : List ℕ) (a e : ℕ) (src last : List ℕ) → length sr
 copied-part x a e src last h f g r =
     ap (λ (l : List ℕ). take a x ++ (l ++ drop (e - a) (drop a x))) (r ∙ whole) ∙ lent-put x a e src h
   where
-    size : length (take (e - a) (drop a x)) ≡ e - a
-    size = length-take-le (e - a) (drop a x) (simp length-drop (omega arith))
-
     whole : over src (take (e - a) (drop a x)) ≡ src
-    whole = over-whole src (take (e - a) (drop a x)) (h ∙ sym size)
+    whole = over-whole src (take (e - a) (drop a x)) (h ∙ sym (length-lent x a e g f))
 
 -- and one that came back cleared
 pub cleared-part : (x : List ℕ) (a e : ℕ) (last : List ℕ) → e ≤ length x → a ≤ e → last ≡ replicate (length (take (e - a) (drop a x))) 0 → take a x ++ (last ++ drop (e - a) (drop a x)) ≡ put x a (replicate (e - a) 0)
 cleared-part x a e last f g r =
-    ap (λ (l : List ℕ). take a x ++ (l ++ drop (e - a) (drop a x))) (r ∙ ap (λ (n : ℕ). replicate n 0) size)
+    ap (λ (l : List ℕ). take a x ++ (l ++ drop (e - a) (drop a x))) (r ∙ ap (λ (n : ℕ). replicate n 0) (length-lent x a e g f))
     ∙ lent-put x a e (replicate (e - a) 0) (length-replicate (e - a) 0)
-  where
-    size : length (take (e - a) (drop a x)) ≡ e - a
-    size = length-take-le (e - a) (drop a x) (simp length-drop (omega arith))
 
 -- ---- sections of w entries each
 
@@ -89,10 +83,10 @@ pub each-append : {w : ℕ} {x y : List (List ℕ)} → Each w x → Each w y �
 each-append no-section f = f
 each-append (one-more e r) f = one-more e (each-append r f)
 
-pub flatten-append : (x y : List (List ℕ)) → flatten (x ++ y) ≡ flatten x ++ flatten y
+pub flatten-append : {A : Type 0} (x y : List (List A)) → flatten (x ++ y) ≡ flatten x ++ flatten y
 unfolding flatten
 flatten-append [] y = refl
-flatten-append (s ∷ x) y = ap (λ (r : List ℕ). s ++ r) (flatten-append x y) ∙ sym (append-assoc s (flatten x) (flatten y))
+flatten-append {A} (s ∷ x) y = ap (λ (r : List A). s ++ r) (flatten-append x y) ∙ sym (append-assoc s (flatten x) (flatten y))
 
 pub length-flatten : {w : ℕ} {l : List (List ℕ)} → Each w l → length (flatten l) ≡ length l * w
 unfolding flatten

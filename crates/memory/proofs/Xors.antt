@@ -41,3 +41,6 @@ part-sized x at size = ap (λ (k : ℕ). take k (drop at x)) (let e : at + size 
 
 pub length-part : (x : List ℕ) (at size : ℕ) → at + size ≤ length x → length (take size (drop at x)) ≡ size
 length-part x at size h = length-take-le size (drop at x) (simp length-drop (omega arith))
+
+pub length-sized : (x : List ℕ) (at size : ℕ) → at + size ≤ length x → length (take (at + size - at) (drop at x)) ≡ size
+length-sized x at size h = ap length (part-sized x at size) ∙ length-part x at size h

@@ -83,6 +83,16 @@ helper-set-right n m y Δs (p ∷ ps) h z e =
     (let l = length-helper-le n m (p ∷ ps) z in let k = length-mask n m p ps z in let r = length-⊙ y (mask (p ∷ ps)) in omega arith)
     ∙ ap (λ (x : List ℕ). y ⊙ x) (sym (mask-corrected Δs Δc p ps))
 
+-- the helper's correction has m entries
+length-helper-set : (n m : ℕ) (y : List ℕ) (ps : List Share) → 0 < length ps → AllSized n m ps → length y ≡ m → length (y ⊙ mask ps ⊕ helper ps) ≡ m
+length-helper-set n m y [] h z e = absurd (omega arith)
+length-helper-set n m y (p ∷ ps) h z e =
+    let a = length-mask n m p ps z in
+    let b = length-helper-le n m (p ∷ ps) z in
+    let c = length-⊙ y (mask (p ∷ ps)) in
+    let d = length-⊕ (y ⊙ mask (p ∷ ps)) (helper (p ∷ ps)) in
+    omega arith
+
 -- corrections no longer than the shares leave their sizes as they are
 corrected-sized : (n m : ℕ) (Δs Δc : List ℕ) (ps : List Share) → length Δs ≤ n → length Δc ≤ m → AllSized n m ps
     → AllSized n m (parties (corrected Δs Δc) ps)
@@ -139,7 +149,7 @@ module _ (P : Params) (salt : List ℕ) (e : ℕ) where
   shares-helper s y seeds h m =
       helper-set-right (P .n) (P .m) y (deltaS P salt e s seeds) (raws P salt e seeds) (let l = length-raws seeds in omega arith) (raws-sized seeds) m
 
-  length-deltaS : (s : List ℕ) (seeds : List (List ℕ)) → length s ≡ P .n → length (deltaS P salt e s seeds) ≡ P .n
+  pub length-deltaS : (s : List ℕ) (seeds : List (List ℕ)) → length s ≡ P .n → length (deltaS P salt e s seeds) ≡ P .n
   unfolding deltaS
   length-deltaS s seeds n =
       let l = length-secret-le (P .n) (P .m) (raws P salt e seeds) (raws-sized seeds) in
@@ -153,6 +163,11 @@ module _ (P : Params) (salt : List ℕ) (e : ℕ) where
       let k = length-⊙ y (mask (raws P salt e seeds)) in
       let r = length-⊕ (y ⊙ mask (raws P salt e seeds)) (helper (raws P salt e seeds)) in
       omega arith
+
+  pub length-deltaC : (y : List ℕ) (seeds : List (List ℕ)) → 0 < length seeds → length y ≡ P .m → length (deltaC P salt e y seeds) ≡ P .m
+  unfolding deltaC
+  length-deltaC y seeds h m =
+      length-helper-set (P .n) (P .m) y (raws P salt e seeds) (let l = length-raws seeds in omega arith) (raws-sized seeds) m
 
   pub shares-sized : (s y : List ℕ) (seeds : List (List ℕ)) → length s ≡ P .n → length y ≡ P .m → AllSized (P .n) (P .m) (shares P salt e s y seeds)
   unfolding shares

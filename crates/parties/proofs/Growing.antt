@@ -2,7 +2,7 @@
 -- Assumes nothing.
 use mathlib.Core.Path.{_≡_, refl, sym, ap, _∙_}
 use mathlib.Core.Bool.{cond}
-use mathlib.Core.List.{List, [], _∷_, _++_, map, flatten, append-assoc, append-nil}
+use mathlib.Core.List.{List, [], _∷_, _++_, map, flatten, append-nil}
 use mathlib.Core.Option.{none, some}
 use Prim.Native.Nat.{ℕ, zero, suc, _<_}
 use native.Mathlib.Omega.{arith}
@@ -10,6 +10,7 @@ use lib.Bits.{bitXor}
 use lib.Dec.{eqb}
 use lib.ListN.{length, getD, take}
 use lib.Seq.{take-nil, take-suc, take-length}
+use Rattle.memory.proofs.Sections.{flatten-append}
 use Rattle.field.specs.Vectors.{_!_, _⊕_, total}
 use Rattle.field.proofs.Vectors.{⊕-at, ⊕-nil-r, ⊕-assoc, total-snoc}
 use Rattle.parties.specs.Parties.{Share, numbered, parties, secret, mask, helper}
@@ -71,11 +72,6 @@ unfolding helper
 helper-snoc ps p = ap total (map-snoc (λ (q : Share). q .c) ps p) ∙ total-snoc (map (λ q. q .c) ps) (p .c)
 
 -- ---- what is laid one after another
-
-pub flatten-append : {A : Type 0} (l k : List (List A)) → flatten (l ++ k) ≡ flatten l ++ flatten k
-unfolding flatten
-flatten-append [] k = refl
-flatten-append {A} (x ∷ l) k = ap (λ (r : List A). x ++ r) (flatten-append l k) ∙ sym (append-assoc x (flatten l) (flatten k))
 
 pub flatten-snoc : {A : Type 0} (l : List (List A)) (x : List A) → flatten (l ++ (x ∷ [])) ≡ flatten l ++ x
 unfolding flatten

@@ -11,6 +11,7 @@ use lib.Dec.{eqb}
 use lib.ListN.{getD, set}
 use lib.Seq.{set-getD}
 use Rattle.tree.specs.Tree.{hide, filled}
+use Rattle.tree.proofs.Hiding.{filled-some}
 use Rattle.parties.specs.Parties.{numbered, parties}
 use Rattle.parties.specs.Repetition.{leftOut}
 use Rattle.parties.proofs.Numbered.{numbered-map, numbered-same, numbered-numbered}
@@ -83,11 +84,6 @@ module _ {A B : Type 0} (g : ℕ → A → B) where
       ∙ sym (numbered-numbered (entryBut h) g 1 l)
 
 -- ---- an entry in the place of what is missing
-
-filled-some : (d : List ℕ) (l : List (List ℕ)) → filled d (map some l) ≡ l
-unfolding filled
-filled-some d [] = refl
-filled-some d (x ∷ l) = ap (λ (r : List (List ℕ)). x ∷ r) (filled-some d l)
 
 filled-blanked : (d : List ℕ) (p : ℕ) (l : List (List ℕ)) → filled d (blanked p l) ≡ set l p d
 unfolding filled blanked

@@ -7,6 +7,7 @@ use native.Mathlib.Omega.{arith}
 use lib.ListN.{length, take, drop}
 use Rattle.memory.specs.Lists.{put}
 use Rattle.memory.specs.Sections.{pieces}
+use Rattle.memory.proofs.Parts.{length-lent}
 use Rattle.field.specs.Packing.{Elements}
 use Rattle.sponge.specs.declared.Sponge.{Sponge}
 use Rattle.sponge.specs.Steps.{absorbed}
@@ -22,7 +23,7 @@ use Rattle.biscuit.specs.Signature.{repeated}
 use Rattle.biscuit.specs.Sign.{Signer, seeds, coms, deltaS, deltaC, σ₁}
 use Rattle.biscuit.specs.Room.{Fits, LayoutOf, groups, leavesAt, rootsAt}
 use Rattle.biscuit.specs.declared.Layout.{Layout}
-use Rattle.biscuit.proofs.Parts.{length-lent, length-first}
+use Rattle.biscuit.proofs.Parts.{length-first}
 use Rattle.biscuit.proofs.Repeated.{among, repeated-more, take-elements}
 use Rattle.vectors.specs.Elements.{elementsAt}
 use Rattle.passes.specs.Passes.{seedsIn, sIn, yIn, HoldsSecret, HoldsRoots, HoldsCorrections, Placed, Kept, Committed}

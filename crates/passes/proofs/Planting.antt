@@ -7,7 +7,7 @@ use lib.ListN.{length, take, drop, length-drop}
 use lib.Seq.{drop-drop}
 use Rattle.memory.specs.Lists.{over, put}
 use Rattle.memory.specs.Sections.{pieces}
-use Rattle.memory.proofs.Parts.{take-put, mid-put, lent-put}
+use Rattle.memory.proofs.Parts.{take-put, mid-put, lent-put, length-lent}
 use Rattle.memory.proofs.Sections.{Each, pieces-flatten}
 use Rattle.memory.proofs.Stores.{over-whole}
 use Rattle.sets.specs.Sets.{S, N}
@@ -18,7 +18,7 @@ use Rattle.tree.proofs.Theorems.{length-getSeeds}
 use Rattle.refusals.specs.Refusals.{workLength}
 use Rattle.biscuit.specs.Room.{Fits, LayoutOf, groups, leavesAt, rootsAt, rootIn}
 use Rattle.biscuit.specs.declared.Layout.{Layout}
-use Rattle.biscuit.proofs.Parts.{length-lent, drop-behind-put}
+use Rattle.biscuit.proofs.Parts.{drop-behind-put}
 use Rattle.biscuit.proofs.Room.{mapped, length-rootIn}
 use Rattle.passes.specs.Passes.{seedsIn, Kept}
 

@@ -1,9 +1,10 @@
 -- Sizes and numbers: the tests of a call answer 0 exactly where all its sizes are right, and 7 at most; what they refuse is the number of the call.
 -- Assumes nothing.
-use mathlib.Core.Path.{_≡_, refl, ap, ap₂, _∙_}
+use mathlib.Core.Path.{_≡_, refl, sym, ap, ap₂, _∙_}
 use mathlib.Core.Bool.{Bool, true, false, not, _||_, cond}
 use mathlib.Core.Logic.{_⊎_, inl, inr, ⊎-elim}
 use Prim.Native.Nat.{ℕ, _*_, _≤_, _<_}
+use native.Mathlib.Decide.{ℕ-discrete}
 use native.Mathlib.Omega.{arith}
 use lib.Dec.{eqb, ltb, lit≤, lit<}
 use borrow.Author.Tests.{ltb-false, le-ltb, eqb-true, eq-eqb, ne-eqb, not-false}
@@ -222,3 +223,11 @@ orElse-right sizes rest e = ap (λ (b : Bool). cond b rest sizes) (eq-eqb sizes 
 pub orElse-refused : (sizes rest : ℕ) → (sizes ≡ 0 → ⊥) → orElse sizes rest ≡ sizes
 unfolding orElse
 orElse-refused sizes rest n = ap (λ (b : Bool). cond b rest sizes) (ne-eqb sizes 0 n)
+
+-- 0 says that both were right
+pub orElse-done : (sizes rest : ℕ) → orElse sizes rest ≡ 0 → (sizes ≡ 0) × (rest ≡ 0)
+orElse-done sizes rest e =
+    elim (ℕ-discrete sizes 0) as (λ d. (sizes ≡ 0) × (rest ≡ 0)) [
+      | yes y ↦ (y, sym (orElse-right sizes rest y) ∙ e)
+      | no n ↦ absurd (n (sym (orElse-refused sizes rest n) ∙ e))
+    ]

@@ -5,20 +5,30 @@ ghost use Prim.Native.Nat.{_≤_};
 ghost use Rattle.sets.specs.Sets.{S, paramsOf};
 ghost use Rattle.refusals.specs.Refusals.{messageLimit, workLength, badSet, badRandom, makeKeysSizes, publicHalfSizes, signSizes, verifySizes};
 
-// The numbers of the refusals that sizes give.
-const NO_SUCH_SET: u8 = 1;
+// The numbers of document 01's table.
+pub const DONE: u8 = 0;
 
-const SEED_LENGTH_WRONG: u8 = 2;
+pub const NO_SUCH_SET: u8 = 1;
 
-const MESSAGE_TOO_LONG: u8 = 3;
+pub const SEED_LENGTH_WRONG: u8 = 2;
 
-const KEY_LENGTH_WRONG: u8 = 4;
+pub const MESSAGE_TOO_LONG: u8 = 3;
 
-const SIGNATURE_LENGTH_WRONG: u8 = 5;
+pub const KEY_LENGTH_WRONG: u8 = 4;
 
-const OUTPUT_TOO_SHORT: u8 = 6;
+pub const SIGNATURE_LENGTH_WRONG: u8 = 5;
 
-const WORK_TOO_SHORT: u8 = 7;
+pub const OUTPUT_TOO_SHORT: u8 = 6;
+
+pub const WORK_TOO_SHORT: u8 = 7;
+
+pub const KEY_NOT_CONSISTENT: u8 = 8;
+
+pub const NOT_ACCEPTED: u8 = 9;
+
+pub const ENVELOPE_LENGTH_WRONG: u8 = 10;
+
+pub const ENVELOPE_VERSION_WRONG: u8 = 11;
 
 // The sets are numbered from 1 to this.
 const LAST_SET: usize = 6;

@@ -68,9 +68,6 @@ module _ (P : Params) (e : ℕ) (f : Fits P) (rep : Rep) (same : rep ≡ repOf P
   pub rep-some : 0 < rep .groups
   rep-some = subst (λ (q : Rep). 0 < q .groups) (sym same) (some-groups P)
 
-  pub rep-nobody : rep .hidden ≡ 0
-  rep-nobody = ap (λ (q : Rep). q .hidden) same
-
   pub rep-values : (v : List ℕ) → length v ≡ P .n + 4 * P .m → length v ≡ valuesLength rep
   rep-values v h = subst (λ (q : Rep). length v ≡ valuesLength q) (sym same) (omega arith)
 

@@ -9,10 +9,10 @@ use native.Mathlib.Omega.{arith}
 use lib.ListN.{length, take, drop}
 use Rattle.memory.specs.Outcome.{OneOutcome, OneSight}
 use Rattle.field.specs.Packing.{Bytes, nib, packedLength}
+use Rattle.field.proofs.Packing.{bytes-by-halves}
 use Rattle.sponge.specs.declared.Sponge.{Sponge}
 use Rattle.sets.specs.declared.Params.{Params}
 use Rattle.vectors.specs.Elements.{elementsAt}
-use Rattle.vectors.proofs.Elements.{bytes-by-halves}
 use Rattle.vectors.proofs.OneOutcome.{sections-fix}
 use Rattle.biscuit.specs.Sign.{Signer}
 use Rattle.biscuit.specs.Signature.{vectorCount}

@@ -8,6 +8,7 @@ use lib.Seq.{take-at, drop-at, take-all, length-take-le}
 use Rattle.sets.specs.declared.Params.{Params}
 use Rattle.parties.specs.Parties.{Share, parties, corrected, alphaOf, alphas, vs}
 use Rattle.parties.specs.Repetition as repetition
+use Rattle.parties.proofs.Corrections as corrections
 use Rattle.parties.proofs.Numbered.{numbered-numbered, length-parties, getD-parties}
 use Rattle.parties.proofs.KnownIsSigned.{nobody-alphas, nobody-vs}
 use Rattle.group.specs.Shares as shares
@@ -18,7 +19,6 @@ use Rattle.refusals.specs.Refusals.{workLength}
 use Rattle.biscuit.specs.Sign as sign
 use Rattle.biscuit.specs.Sign.{Signer}
 use Rattle.biscuit.specs.Room.{Fits, rootsAt, challengesAt}
-use Rattle.biscuit.proofs.SignSized as sized
 use Rattle.biscuit.proofs.SignSized.{length-seeds}
 use Rattle.passes.specs.Passes.{seedsIn, sIn, HoldsRoots, HoldsCorrections}
 use Rattle.passes.proofs.Planting.{pieces-seeds}
@@ -34,7 +34,7 @@ module _ (P : Params) (signer : Signer) (msg salt secret packing work : List ℕ
     (e : ℕ) (from : 1 ≤ e) (to : e ≤ P .tau) where
   length-deltaS : length (sign.deltaS P signer e) ≡ P .n
   unfolding sign.deltaS sIn
-  length-deltaS = sized.length-deltaS P (signer .salt) e (sign.seeds P signer e) (signer .key .s) (ap length (challenged .held .s) ∙ length-take-le (P .n) secret (omega arith))
+  length-deltaS = corrections.length-deltaS P (signer .salt) e (signer .key .s) (sign.seeds P signer e) (ap length (challenged .held .s) ∙ length-take-le (P .n) secret (omega arith))
 
   -- the corrections of the packing
   read-corrections : elementsAt packing ((e - 1) * (P .n + P .m)) (P .n + P .m) ≡ sign.deltaS P signer e ++ sign.deltaC P signer e

@@ -8,6 +8,7 @@ use lib.Seq.{take-at, drop-at, take-append-le, drop-append-le, length-take-le}
 use Rattle.memory.specs.Lists.{over}
 use Rattle.memory.proofs.Stores.{over-whole}
 use Rattle.memory.proofs.Xors.{getD-zeros}
+use Rattle.memory.proofs.Parts.{length-lent}
 use Rattle.field.specs.Packing.{Elements, unpack, packedLength}
 use Rattle.field.proofs.Packing.{length-unpack, unpack-elements}
 use Rattle.sets.specs.declared.Params.{Params}
@@ -15,7 +16,7 @@ use Rattle.forms.specs.Room.{challengeIn}
 use Rattle.group.specs.Shares.{deltaS, deltaC, epsilon, target}
 use Rattle.vectors.specs.Elements.{elementsAt}
 use Rattle.vectors.proofs.Elements.{length-elements-at, elements-at-elements}
-use Rattle.biscuit.proofs.Parts.{length-lent, four-sizes, four-sections}
+use Rattle.biscuit.proofs.Parts.{four-sizes, four-sections}
 use Rattle.biscuit.proofs.Repeated.{append-elements, take-elements, drop-elements}
 use Rattle.passes.specs.Passes.{tIn}
 use Rattle.replies.specs.Replies.{repOf, valuesIn}

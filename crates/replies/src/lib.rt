@@ -240,7 +240,7 @@ fn alpha_leaf(
     let a = map.roots + (e - 1) * s;
     let b = a + s;
     let rep = rep_of(p, e);
-    answers::alpha_of(rep, salt, &work[0..c], values, i, &work[a..b], alpha);
+    single::alpha_of(rep, salt, &work[0..c], values, i, &work[a..b], alpha);
 }
 
 // Line 40, of the hidden α of repetition e: written to its place in the packing.

@@ -13,7 +13,7 @@ use Rattle.memory.specs.Lists.{over}
 use Rattle.field.specs.Packing.{packedLength}
 use Rattle.sets.specs.Sets.{S, rows, paramsOf, publicKeyLength, signatureLength}
 use Rattle.refusals.specs.Refusals.{messageLimit, workLength, badSet, differs, verifySizes, orElse}
-use Rattle.refusals.proofs.Refusals.{verify-at-most, right-verify, orElse-right, orElse-refused}
+use Rattle.refusals.proofs.Refusals.{verify-at-most, right-verify, orElse-right, orElse-refused, orElse-done}
 use Rattle.envelope.specs.Bits.{bits, spelled, bitsOf, field}
 use Rattle.envelope.specs.Envelope.{headerLength, theVersion, headerOf, placed, headerNumber, readNumber, keyBytes, signatureBytes, messageBytes}
 use Rattle.envelope.proofs.Cut.{cut-reads-alike}
@@ -27,13 +27,6 @@ use Rattle.report.proofs.Lines.{refused-fits, genuine-fits}
 use Rattle.report.proofs.Outcomes.{said-genuine, said-refused}
 
 -- ---- numbers
-
-both-done : (first rest : ℕ) → orElse first rest ≡ 0 → first ≡ 0
-both-done first rest e =
-    elim (ℕ-discrete first 0) as (λ d. first ≡ 0) [
-      | yes y ↦ y
-      | no n ↦ absurd (n (sym (orElse-refused first rest n) ∙ e))
-    ]
 
 either-small : (first rest : ℕ) → first < 256 → rest < 256 → orElse first rest < 256
 either-small first rest f r =
@@ -64,7 +57,7 @@ verify-small set pk msg sig work =
 
 reported-read : (e work : List ℕ) → reportNumber e work ≡ 0 → readNumber e ≡ 0
 unfolding reportNumber
-reported-read e work z = both-done (readNumber e) _ z
+reported-read e work z = let d = orElse-done (readNumber e) _ z in d .0
 
 reported-small : (e work : List ℕ) → reportNumber e work < 256
 unfolding reportNumber

@@ -1,4 +1,4 @@
--- How the call ended, from the numbers of reading and of verifying; and that every line has room in sixteen bytes.
+-- How the call ended, from the numbers of reading and of verifying.
 -- Assumes nothing.
 use mathlib.Core.Path.{_≡_, sym, ap, _∙_}
 use mathlib.Core.Bool.{Bool, cond}

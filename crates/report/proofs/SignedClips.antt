@@ -1,5 +1,5 @@
--- Over the promises of the calls: whatever signing wrote with the number 0, written into an envelope with the number 0, is genuine to the clip program.
--- Assumes nothing.
+-- Over what the calls promise, as equations to their outcomes: whatever signing wrote with the number 0, written into an envelope with the number 0, is genuine to the clip program.
+-- `EveryClip` says it of the contracts themselves. Assumes nothing.
 use mathlib.Core.Path.{_≡_, refl, sym, ap, _∙_}
 use mathlib.Core.List.{List}
 use Prim.Native.Nat.{ℕ, _≤_}

@@ -1,6 +1,7 @@
 // What the clip program says of the bytes that it has read: one line, `genuine S L` or `refused R` (document 01, "The clip envelope"). All that decides is here;
 // the program reads its input and writes the line. The call takes any arguments.
 use envelope::Header;
+use refusals::DONE;
 ghost use mathlib.Core.Path.{_≡_};
 ghost use Prim.Native.Nat.{_+_, _≤_, _<_};
 ghost use lib.ListN.{length};
@@ -8,11 +9,8 @@ ghost use Rattle.memory.specs.Lists.{over, put};
 ghost use Rattle.report.specs.Decimal.{decimal};
 ghost use Rattle.report.specs.Report.{genuineLine, refusedLine, reportEnded, reportOutcome};
 
-// Done, or genuine.
-const DONE: u8 = 0;
-
 // Room for the longest line: `genuine`, a set of one digit and a length of five.
-const ROOM: usize = 16;
+pub const ROOM: usize = 16;
 
 // The line for an envelope: reading it, then verifying it, for which work is lent. Writes the line over the start of the lent one, and gives its length.
 pub fn line_for(input: &[u8], line: &mut [u8], work: &mut [u8]) -> usize

@@ -7,7 +7,7 @@ use native.Mathlib.Omega.{arith}
 use lib.ListN.{length, take, drop}
 use lib.Seq.{take-at, drop-drop}
 use Rattle.memory.specs.Lists.{put}
-use Rattle.memory.proofs.Parts.{length-put, from-put, lent-put}
+use Rattle.memory.proofs.Parts.{length-put, from-put, lent-put, length-lent}
 use Rattle.memory.proofs.Sections.{part-before-put}
 use Rattle.field.specs.Packing.{packedLength}
 use Rattle.sponge.specs.declared.Sponge.{Sponge}
@@ -23,7 +23,7 @@ use Rattle.forms.specs.Room.{HoldsCircuit}
 use Rattle.refusals.specs.Refusals.{workLength}
 use Rattle.biscuit.specs.Room.{Fits, leavesAt, rootsAt, challengesAt, roomEnd, rootIn}
 use Rattle.biscuit.specs.Sign.{Signer, f, σ₁, h₁, h₂, σ₂}
-use Rattle.biscuit.proofs.Parts.{length-lent, take-before-put}
+use Rattle.biscuit.proofs.Parts.{take-before-put}
 use Rattle.biscuit.proofs.Repeated.{among}
 use Rattle.biscuit.proofs.Room.{mapped}
 use Rattle.passes.specs.Passes.{HoldsSecret, HoldsRoots, HoldsCorrections, Kept}

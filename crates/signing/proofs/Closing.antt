@@ -6,7 +6,7 @@ use native.Mathlib.Omega.{arith}
 use lib.ListN.{length, take, drop, length-append, drop-of-length-le}
 use lib.Seq.{take-at, take-all}
 use Rattle.memory.specs.Lists.{put}
-use Rattle.memory.proofs.Parts.{length-put, from-put, lent-put}
+use Rattle.memory.proofs.Parts.{length-put, from-put, lent-put, length-lent}
 use Rattle.field.specs.Packing.{pack, packedLength}
 use Rattle.sponge.specs.Sponge.{shake256}
 use Rattle.sponge.proofs.Laws.{length-shake256}
@@ -15,7 +15,7 @@ use Rattle.sets.specs.declared.Params.{Params}
 use Rattle.biscuit.specs.Room.{Fits, rootsAt}
 use Rattle.biscuit.specs.Signature.{repeated, shown, vectors, vectorCount, headLength, packingAt, written}
 use Rattle.biscuit.specs.Sign.{Signer, h₁, h₂, signed}
-use Rattle.biscuit.proofs.Parts.{length-lent, drop-behind-put}
+use Rattle.biscuit.proofs.Parts.{drop-behind-put}
 use Rattle.passes.specs.Passes.{HoldsRoots}
 use Rattle.replies.specs.Replies.{Challenged, HoldsHidden}
 use Rattle.replies.proofs.Expanded.{hidden-expanded}

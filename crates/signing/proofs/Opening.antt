@@ -6,7 +6,7 @@ use native.Mathlib.Omega.{arith}
 use lib.ListN.{length, getD, take, drop, length-append, length-drop, drop-of-length-le}
 use lib.Seq.{take-at, drop-at, take-all, drop-drop, getD-drop, length-take-le}
 use Rattle.memory.specs.Lists.{put}
-use Rattle.memory.proofs.Parts.{length-put, drop-put, lent-put}
+use Rattle.memory.proofs.Parts.{length-put, drop-put, lent-put, length-lent}
 use Rattle.field.specs.Packing.{Bytes, nib, pack, packedLength}
 use Rattle.sets.specs.Sets.{S, signatureLength}
 use Rattle.sets.specs.declared.Params.{Params}
@@ -15,7 +15,6 @@ use Rattle.refusals.specs.Refusals.{workLength}
 use Rattle.biscuit.specs.Room.{Fits, rootsAt, challengesAt}
 use Rattle.biscuit.specs.Signature.{repeated, shown, vectors, vectorCount, headLength, packingAt}
 use Rattle.biscuit.specs.Sign.{Signer, f, opening, signed}
-use Rattle.biscuit.proofs.Parts.{length-lent}
 use Rattle.opening.specs.Shown.{leafOf, shownOf}
 use Rattle.opening.proofs.Turning.{length-all-shown, length-all-leaves}
 use Rattle.passes.specs.Passes.{HoldsRoots, HoldsCorrections}

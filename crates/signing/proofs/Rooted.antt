@@ -6,14 +6,14 @@ use native.Mathlib.Omega.{arith}
 use lib.ListN.{length, take, drop, length-drop}
 use lib.Seq.{take-append-le, drop-append-le}
 use Rattle.memory.specs.Lists.{put}
-use Rattle.memory.proofs.Parts.{length-put, from-put, lent-put}
+use Rattle.memory.proofs.Parts.{length-put, from-put, lent-put, length-lent}
 use Rattle.sets.specs.Sets.{S}
 use Rattle.sets.specs.declared.Params.{Params}
 use Rattle.refusals.specs.Refusals.{workLength}
 use Rattle.biscuit.specs.Room.{Fits, leavesAt, rootsAt, challengesAt, rootIn}
 use Rattle.biscuit.specs.Signature.{repeated, shown}
 use Rattle.biscuit.specs.Sign.{Signer, signed}
-use Rattle.biscuit.proofs.Parts.{length-lent, part-of-taken, take-before-put, drop-behind-put}
+use Rattle.biscuit.proofs.Parts.{part-of-taken, take-before-put, drop-behind-put}
 use Rattle.biscuit.proofs.Repeated.{among, repeated-stands, stands-read}
 use Rattle.biscuit.proofs.Room.{mapped}
 use Rattle.opening.specs.Shown.{leafOf, shownOf}

@@ -6,18 +6,14 @@ use Prim.Native.Nat.{ℕ, _+_, _-_, _*_, _/_, _%_, _≤_, _<_, min}
 use native.Mathlib.Nat.{sub-zero, add-zero, min-le-left}
 use native.Mathlib.Decide.{decLt}
 use native.Mathlib.Omega.{arith}
-use lib.ListN.{length, take, drop, length-take, length-drop}
+use lib.ListN.{length, take, drop, length-take}
 use lib.Seq.{take-add, take-all, length-take-le}
 use Rattle.memory.specs.Lists.{put, table}
 use Rattle.memory.proofs.Bytes.{take-through}
-use Rattle.memory.proofs.Parts.{lent-put, length-put}
+use Rattle.memory.proofs.Parts.{lent-put, length-lent, back, length-put}
 use Rattle.sponge.specs.Sponge.{rate}
 use Rattle.sponge.specs.Steps.{xorBytes, bytesFrom}
 use Rattle.sponge.proofs.Lanes.{xorBytes-append, bytesFrom-add, length-bytesFrom}
-
--- from a to e
-length-part : (l : List ℕ) (a e : ℕ) → a ≤ e → e ≤ length l → length (take (e - a) (drop a l)) ≡ e - a
-length-part l a e h k = length-take-le (e - a) (drop a l) (simp length-drop (omega arith))
 
 -- the place of the words: a whole lane, or there are none
 module _ (at n h m : ℕ) (first : h ≡ min ((8 - at % 8) % 8) n) (second : m ≡ h + (n - h) / 8 * 8) where
@@ -92,7 +88,7 @@ xor-pieces S at bytes h m x y z first second ex ey ez =
 -- a list whose first a bytes are given, and then those from a to e
 module _ (S : List ℕ) (at : ℕ) (out : List ℕ) (a e : ℕ) (ys : List ℕ) (h : a ≤ e) (k : e ≤ length out) (new : ys ≡ bytesFrom S (at + a) (length (take (e - a) (drop a out)))) where
   length-new : length ys ≡ e - a
-  length-new = ap length new ∙ length-bytesFrom S (at + a) (length (take (e - a) (drop a out))) ∙ length-part out a e h k
+  length-new = ap length new ∙ length-bytesFrom S (at + a) (length (take (e - a) (drop a out))) ∙ length-lent out a e h k
 
   give-length : length (take a out ++ (ys ++ drop (e - a) (drop a out))) ≡ length out
   give-length = let l = length-new in ap length (lent-put out a e ys l) ∙ length-put out a ys (omega arith)
@@ -103,7 +99,7 @@ module _ (S : List ℕ) (at : ℕ) (out : List ℕ) (a e : ℕ) (ys : List ℕ) 
       ap (take e) (lent-put out a e ys l)
       ∙ ap (λ (n : ℕ). take n (put out a ys)) (let g : e ≡ a + length ys = omega arith in g)
       ∙ take-through out a ys (omega arith)
-      ∙ ap₂ (λ (x y : List ℕ). x ++ y) so-far (new ∙ ap (bytesFrom S (at + a)) (length-part out a e h k))
+      ∙ ap₂ (λ (x y : List ℕ). x ++ y) so-far (new ∙ ap (bytesFrom S (at + a)) (length-lent out a e h k))
       ∙ sym (bytesFrom-add S at a (e - a))
       ∙ ap (bytesFrom S at) (let g : a + (e - a) ≡ e = omega arith in g)
 
@@ -115,10 +111,6 @@ bytesFrom-none : (S : List ℕ) (i j k : ℕ) → k ≡ 0 → bytesFrom S i k �
 unfolding bytesFrom table
 bytesFrom-none S i j k e = rw e refl
 
--- the list after a part of it, from a to e, came back as ys
-abbrev back : List ℕ → ℕ → ℕ → List ℕ → List ℕ
-back out a e ys = take a out ++ (ys ++ drop (e - a) (drop a out))
-
 pub give-pieces : (S : List ℕ) (at : ℕ) (out : List ℕ) (h m : ℕ) (x y z : List ℕ)
     → h ≡ min ((8 - at % 8) % 8) (length out) → m ≡ h + (length out - h) / 8 * 8
     → x ≡ bytesFrom S at (length (take (h - 0) out))
@@ -128,7 +120,7 @@ pub give-pieces : (S : List ℕ) (at : ℕ) (out : List ℕ) (h m : ℕ) (x y z 
 give-pieces S at out h m x y z first second ex ey ez =
     let lx = give-length S at out 0 h x (omega arith) (omega arith) fx in
     let gx = give-part S at out 0 h x (omega arith) (omega arith) fx (none S at) in
-    let fy = ey ∙ placed (length-part (back out 0 h x) h m (omega arith) (omega arith)) in
+    let fy = ey ∙ placed (length-lent (back out 0 h x) h m (omega arith) (omega arith)) in
     let ly = give-length S at (back out 0 h x) h m y (omega arith) (omega arith) fy in
     let gy = give-part S at (back out 0 h x) h m y (omega arith) (omega arith) fy gx in
     let lz = give-length S at (back (back out 0 h x) h m y) m (length out) z (omega arith) (omega arith) ez in

@@ -49,6 +49,10 @@ fn run(case: &[u8]) {
         return;
     }
     let file = os::open_read(b"made");
+    if file < 0 {
+        io::write_all(STDOUT_FILENO, b"no clip was opened\n");
+        return;
+    }
     checking::check(file);
     libc::close(file);
 }

@@ -114,7 +114,7 @@ pub fn row(i: usize, row: &mut [u8]) {
 
 // Copies a row of a text.
 fn copy(i: usize, text: &[u8], row: &mut [u8]) {
-    if ROWS < i {
+    if ROWS <= i {
         return;
     }
     let a = i * ROW;

@@ -19,12 +19,12 @@ fn published() {
     let t = tape_of(b"");
     let after = t.squeeze(&mut out);
     io::write_all(STDOUT_FILENO, b"empty message, 512 bytes");
-    bytes_line(&out);
+    lines::bytes_line(&out);
     let message = [0xa3u8; 200];
     let u = tape_of(&message);
     let behind = u.squeeze(&mut out);
     io::write_all(STDOUT_FILENO, b"200 bytes of a3, 512 bytes");
-    bytes_line(&out);
+    lines::bytes_line(&out);
 }
 
 // Both sides of a block at the input.
@@ -59,11 +59,11 @@ fn input(n: usize)
     let t = tape_of(&message[0..n]);
     let after = t.squeeze(&mut out);
     case(b"input ", n, b", whole, 64 bytes");
-    bytes_line(&out);
+    lines::bytes_line(&out);
     let u = tape_of_pieces(&message[0..n]);
     let behind = u.squeeze(&mut out);
     case(b"input ", n, b", in pieces, 64 bytes");
-    bytes_line(&out);
+    lines::bytes_line(&out);
 }
 
 // n bytes of the message of 137 bytes, squeezed whole and in turns.
@@ -82,7 +82,7 @@ fn output_whole(out: &mut [u8]) {
     let t = tape_of(&message[0..137]);
     let after = t.squeeze(out);
     case(b"output ", out.len(), b", whole");
-    bytes_line(out);
+    lines::bytes_line(out);
 }
 
 // As many bytes as `out` holds, squeezed in turns.
@@ -91,7 +91,7 @@ fn output_in_turns(out: &mut [u8]) {
     let t = tape_of(&message[0..137]);
     squeeze_in_turns(t, out);
     case(b"output ", out.len(), b", in turns");
-    bytes_line(out);
+    lines::bytes_line(out);
 }
 
 // A place far into a long output.
@@ -104,7 +104,7 @@ fn far() {
         STDOUT_FILENO,
         b"long output, bytes 16384 to 16448 of input 136",
     );
-    bytes_line(&out[16384..16448]);
+    lines::bytes_line(&out[16384..16448]);
 }
 
 // The message whose byte i is 7i + 3 modulo 256.
@@ -167,23 +167,4 @@ fn case(kind: &[u8], n: usize, rest: &[u8]) {
     io::write_all(STDOUT_FILENO, kind);
     io::print_decimal(STDOUT_FILENO, n as u64);
     io::write_all(STDOUT_FILENO, rest);
-}
-
-// A colon, the bytes in hexadecimal and the end of the line.
-fn bytes_line(bytes: &[u8]) {
-    io::write_all(STDOUT_FILENO, b":");
-    if 0 < bytes.len() {
-        io::write_all(STDOUT_FILENO, b" ");
-    }
-    let mut i = 0;
-    while i < bytes.len() {
-        io::print_hex(STDOUT_FILENO, wide(bytes[i]), 2);
-        i += 1;
-    }
-    io::write_all(STDOUT_FILENO, b"\n");
-}
-
-// A byte as a number.
-fn wide(b: u8) -> u64 {
-    b as u64
 }

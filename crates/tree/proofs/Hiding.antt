@@ -85,7 +85,7 @@ hide-besideBlank p own blank z = by-bit (bit p)
     by-bit (even t e g) = rw e
     by-bit (odd t e g) = rw e
 
-filled-some : (blank : List ℕ) (l : List (List ℕ)) → filled blank (map some l) ≡ l
+pub filled-some : (blank : List ℕ) (l : List (List ℕ)) → filled blank (map some l) ≡ l
 unfolding filled
 filled-some blank [] = refl
 filled-some blank (s ∷ l) = ap (λ (r : List (List ℕ)). s ∷ r) (filled-some blank l)

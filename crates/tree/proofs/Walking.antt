@@ -23,18 +23,15 @@ use Rattle.tree.proofs.Laying.{Sized, children-sized}
 use Rattle.tree.proofs.Theorems.{length-pathAt, length-getPath, onWay-seedsAt}
 
 module _ (S : ℕ) (salt : List ℕ) (e k j : ℕ) (s pair : List ℕ) (p : ℕ) (fits : 2 * S ≤ length pair) where
-  two-seeds : length (childSeeds S salt e k j s) ≡ 2 * S
-  two-seeds = length-childSeeds S salt e k j s
-
   first-in : take S (drop 0 (put pair 0 (childSeeds S salt e k j s))) ≡ children S salt e k j s .seed₁
   unfolding children
-  first-in = part-in-put pair (childSeeds S salt e k j s) 0 S (omega (arith, two-seeds))
+  first-in = part-in-put pair (childSeeds S salt e k j s) 0 S (omega (arith, length-childSeeds S salt e k j s))
 
   second-in : take S (drop S (put pair 0 (childSeeds S salt e k j s))) ≡ children S salt e k j s .seed₂
   unfolding children
   second-in =
-      part-in-put pair (childSeeds S salt e k j s) S S (omega (arith, two-seeds))
-      ∙ take-all S (drop S (childSeeds S salt e k j s)) (simp length-drop (omega (arith, two-seeds)))
+      part-in-put pair (childSeeds S salt e k j s) S S (omega (arith, length-childSeeds S salt e k j s))
+      ∙ take-all S (drop S (childSeeds S salt e k j s)) (simp length-drop (omega (arith, length-childSeeds S salt e k j s)))
 
   -- of the two children, the one on the way to p and the one beside it
   pub towards-in : take S (drop (p % 2 * S) (put pair 0 (childSeeds S salt e k j s))) ≡ towards p (children S salt e k j s)

@@ -5,16 +5,16 @@ use mathlib.Core.Logic.{⊎-elim}
 use mathlib.Core.Bool.{Bool, true, false, _&&_, cond}
 use mathlib.Core.List.{List, _++_}
 use Prim.Native.Nat.{ℕ, _+_, _-_, _*_, _/_, _%_, _^_, _≤_, _<_}
-use native.Mathlib.Nat.{mod-eq-of-lt, zero-div}
+use native.Mathlib.Nat.{mod-eq-of-lt}
 use native.Mathlib.Decide.{ℕ-discrete, decLt}
 use native.Mathlib.Omega.{arith}
 use borrow.Author.Tests.{le-leb, lt-leb, lt-ltb, le-ltb}
 use lib.Dec.{leb, ltb}
-use lib.ListN.{length, getD, set, take, drop, length-set, length-drop, List·getD-eq-default, List·getD-append, length-append, replicate, length-replicate, getD-replicate}
-use lib.Seq.{ext-getD, getD-take, getD-drop, length-take-le, getD-set-same, getD-set-other, getD-append-add}
+use lib.ListN.{length, getD, set, take, drop, length-set, length-drop, List·getD-eq-default, List·getD-append, length-append, replicate, length-replicate}
+use lib.Seq.{getD-take, getD-drop, length-take-le, getD-set-same, getD-set-other, getD-append-add}
 use Rattle.memory.proofs.Lists.{length-table, getD-table, table-same, table-of}
 use Rattle.field.specs.Packing.{Elements, Bytes, pack, packedLength, nib, unpack}
-use Rattle.field.proofs.Packing.{Low, High, low-or-high, nib-lt, nib-low, nib-high, nib-even, nib-odd, nib-pack, nib-drop, length-pack, pack-lt, length-unpack, getD-unpack}
+use Rattle.field.proofs.Packing.{Low, High, low-or-high, nib-lt, nib-low, nib-high, nib-even, nib-odd, nib-zeros, bytes-by-halves, nib-pack, nib-drop, length-pack, pack-lt, length-unpack, getD-unpack}
 use Rattle.vectors.specs.Elements.{elementsAt, halfAfter, elementsPut, HalfPut}
 
 -- ---- reading
@@ -63,21 +63,6 @@ elements-at-drop b at n k =
     (λ i h. nib-drop k b (at + i) ∙ ap (nib b) (let e : k * 2 + (at + i) ≡ k * 2 + at + i = omega arith in e))
 
 -- ---- half bytes and length fix a list of bytes
-
-pub bytes-by-halves : (a b : List ℕ) → Bytes a → Bytes b → length a ≡ length b → ((j : ℕ) → j < 2 * length a → nib a j ≡ nib b j) → a ≡ b
-bytes-by-halves a b ha hb e h = ext-getD 0 a b e (λ i l. entry i l)
-  where
-    entry : (i : ℕ) → i < length a → getD a i 0 ≡ getD b i 0
-    entry i l =
-        let x = h (i * 2) (omega arith) in
-        let y = h (i * 2 + 1) (omega arith) in
-        let p = nib-even a i in
-        let q = nib-even b i in
-        let r = nib-odd a i in
-        let s = nib-odd b i in
-        let t = ha i in
-        let u = hb i in
-        omega arith
 
 -- bytes whose half bytes are the elements, and 0 behind an odd last one, are their packing
 pub pack-by-halves : (v b : List ℕ) → Bytes b → length b ≡ packedLength (length v) → ((j : ℕ) → j < 2 * length b → nib b j ≡ getD v j 0 % 16) → b ≡ pack v
@@ -215,12 +200,6 @@ elements-put-whole v b h =
         let g : 0 + j ≡ j = omega arith in
         ap (nib (elementsPut v 0 b)) (sym g) ∙ nib-put-inside v 0 b j (omega arith) (omega arith)
 
-nib-zeros : (k j : ℕ) → j / 2 < k → nib (replicate k 0) j ≡ 0
-unfolding nib
-nib-zeros k j h =
-    ap (λ (x : ℕ). x / 16 ^ (j % 2) % 16) (getD-replicate k (j / 2) 0 0 h)
-    ∙ ap (λ (x : ℕ). x % 16) (zero-div (16 ^ (j % 2)))
-
 -- elements written over zeros are their packing, an odd last one too
 pub elements-put-zeros : (v : List ℕ) (k : ℕ) → k ≡ packedLength (length v) → elementsPut v 0 (replicate k 0) ≡ pack v
 unfolding packedLength
@@ -239,7 +218,7 @@ elements-put-zeros v k e =
               (let g : 0 + j ≡ j = omega arith in
               ap (nib (elementsPut v 0 (replicate k 0))) (sym g) ∙ nib-put-inside v 0 (replicate k 0) j (omega arith) y)
           | no y ↦
-              nib-put-behind v 0 (replicate k 0) j l (omega arith) ∙ nib-zeros k j (let z = zeros in omega arith)
+              nib-put-behind v 0 (replicate k 0) j l (omega arith) ∙ nib-zeros k j
               ∙ sym (ap (λ (x : ℕ). x % 16) (List·getD-eq-default v 0 {n = j} (omega arith)))
         ]
 

@@ -9,8 +9,9 @@ use native.Mathlib.Omega.{arith}
 use lib.ListN.{getD}
 use Rattle.memory.specs.Outcome.{OneOutcome}
 use Rattle.field.specs.Packing.{Bytes, nib}
+use Rattle.field.proofs.Packing.{bytes-by-halves}
 use Rattle.vectors.specs.Elements.{elementsAt, HalfPut}
-use Rattle.vectors.proofs.Elements.{bytes-by-halves, getD-elements-at}
+use Rattle.vectors.proofs.Elements.{getD-elements-at}
 use Rattle.vectors.proofs.«read_elements» as read-elements
 use Rattle.vectors.proofs.«write_elements» as write-elements
 use Rattle.vectors.proofs.«put_element» as put-element

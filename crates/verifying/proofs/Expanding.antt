@@ -7,7 +7,7 @@ use native.Mathlib.Omega.{arith}
 use lib.ListN.{length, take, drop}
 use lib.Seq.{take-at}
 use Rattle.memory.specs.Lists.{put}
-use Rattle.memory.proofs.Parts.{lent-put, mid-put}
+use Rattle.memory.proofs.Parts.{lent-put, mid-put, length-lent}
 use Rattle.field.specs.Packing.{packedLength}
 use Rattle.sponge.specs.Sponge.{shake256}
 use Rattle.sets.specs.Sets.{S}
@@ -19,7 +19,7 @@ use Rattle.biscuit.specs.Keys.{circuit, publicKeyOf}
 use Rattle.biscuit.specs.Signature.{extracted}
 use Rattle.biscuit.specs.Verify.{f, ε, hidden}
 use Rattle.biscuit.specs.Room.{leavesAt, challengesAt, roomEnd, Fits}
-use Rattle.biscuit.proofs.Parts.{length-lent, length-first, length-first-back, take-before-put}
+use Rattle.biscuit.proofs.Parts.{length-first, length-first-back, take-before-put}
 use Rattle.biscuit.proofs.Repeated.{among}
 use Rattle.biscuit.proofs.Room.{mapped}
 use Rattle.verifying.specs.Turns.{circuitPart, challengesPart}

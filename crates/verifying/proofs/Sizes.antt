@@ -7,13 +7,13 @@ use native.Mathlib.Omega.{arith}
 use lib.ListN.{length, take, drop, length-take}
 use mathlib.Core.List.{List}
 use Rattle.memory.proofs.Xors.{part-sized, length-part}
+use Rattle.memory.proofs.Parts.{length-lent}
 use Rattle.field.specs.Packing.{packedLength}
 use Rattle.sets.specs.Sets.{S, N, publicKeyLength, signatureLength}
 use Rattle.sets.specs.declared.Params.{Params}
 use Rattle.forms.specs.Room.{circuitLength}
 use Rattle.biscuit.specs.Signature.{headLength, shownLength, shownAt, packingAt}
 use Rattle.biscuit.specs.Room.{groups, leavesAt, roomAt, rootsAt, challengesAt, roomEnd, Fits}
-use Rattle.biscuit.proofs.Parts.{length-lent}
 use Rattle.biscuit.proofs.Repeated.{among}
 use Rattle.biscuit.proofs.Room.{mapped}
 

@@ -2,8 +2,8 @@
 -- algorithm 12. One law serves the three places. Assumes nothing.
 use mathlib.Core.Path.{_≡_, refl, sym, ap, ap₂, _∙_}
 use mathlib.Core.List.{List, [], _∷_, _++_, map}
-use Prim.Native.Nat.{ℕ, suc, _+_, _-_, _*_, _/_, _%_, _^_, _≤_, _<_}
-use native.Mathlib.Nat.{zero-add, zero-div}
+use Prim.Native.Nat.{ℕ, suc, _+_, _-_, _*_, _≤_, _<_}
+use native.Mathlib.Nat.{zero-add}
 use native.Mathlib.Numerals.{add-one}
 use native.Mathlib.Omega.{arith}
 use lib.Bits.{bitXor, xor-zero-l}
@@ -11,10 +11,10 @@ use lib.ListN.{length, getD, take, drop, replicate, length-replicate}
 use lib.Seq.{ext-getD, take-all, length-take-le}
 use Rattle.memory.specs.Sections.{pieces}
 use Rattle.memory.proofs.Sections.{length-pieces, getD-pieces}
-use Rattle.memory.proofs.Xors.{getD-zeros, lent-start}
+use Rattle.memory.proofs.Xors.{lent-start}
 use Rattle.field.specs.Packing.{packedLength, nib, unpack}
 use Rattle.field.specs.Vectors.{_!_, _⊕_, _⊙_, total}
-use Rattle.field.proofs.Packing.{nib-past, nib-drop, length-unpack, getD-unpack}
+use Rattle.field.proofs.Packing.{nib-past, nib-zeros, nib-drop, length-unpack, getD-unpack}
 use Rattle.field.proofs.PackedSums.{nib-⊕}
 use Rattle.field.proofs.Vectors.{⊕-at, ⊕-nil-r, ⊕-assoc, length-⊕, ⊙-at, length-⊙}
 use Rattle.field.specs.Field.{mul}
@@ -27,8 +27,7 @@ use Rattle.parties.specs.Parties.{Share, numbered, parties, secret, mask, helpe
 use Rattle.parties.specs.Repetition.{rawShare, raws, deltaS, deltaC}
 use Rattle.parties.proofs.Numbered.{length-parties, getD-parties}
 use Rattle.parties.proofs.Growing.{total-take-suc}
-use Rattle.parties.proofs.Sizes.{AllSized, length-secret-le, length-mask, length-helper-le}
-use Rattle.parties.proofs.Corrections.{raws-sized}
+use Rattle.parties.proofs.Corrections.{length-deltaS, length-deltaC}
 use Rattle.views.specs.Views.{tapes, tapeSum, tapeLength, correctionS, correctionC}
 
 -- ---- the loop over the parties
@@ -80,10 +79,6 @@ summed-start salt e n size seeds room last en h k el =
     ∙ ap (λ (z : ℕ). tapeSum salt e z seeds) (length-take-le (n - 0) room (omega arith) ∙ (let z : n - 0 ≡ size = omega arith in z))
 
 -- ---- what the sum holds
-
-nib-zeros : (size j : ℕ) → nib (replicate size 0) j ≡ 0
-unfolding nib
-nib-zeros size j = ap (λ (x : ℕ). x / 16 ^ (j % 2) % 16) (getD-zeros size (j / 2)) ∙ ap (λ (x : ℕ). x % 16) (zero-div (16 ^ (j % 2)))
 
 -- four bits of a sum over the parties, where they are an entry of a part of each share
 nib-total : (g : ℕ → List ℕ → List ℕ) (h : ℕ → List ℕ → Share) (f : Share → List ℕ) (j k : ℕ) → ((i : ℕ) (x : List ℕ) → f (h i x) ! k ≡ nib (g i x) j)
@@ -138,16 +133,10 @@ module _ (P : Params) (salt : List ℕ) (e : ℕ) (seeds : List (List ℕ)) wher
   -- algorithm 12, line 14
   pub correction-deltaS : (s : List ℕ) → length s ≡ P .n → correctionS (P .n) s sumOf ≡ deltaS P salt e s seeds
   unfolding correctionS deltaS
-  correction-deltaS s h = ext-getD 0 (s ⊕ unpack (P .n) sumOf) (s ⊕ secret (raws P salt e seeds)) (left ∙ sym right) (λ k g. entry k (omega (arith, left)))
+  correction-deltaS s h = ext-getD 0 (s ⊕ unpack (P .n) sumOf) (s ⊕ secret (raws P salt e seeds)) (left ∙ sym (length-deltaS P salt e s seeds h)) (λ k g. entry k (omega (arith, left)))
     where
       left : length (s ⊕ unpack (P .n) sumOf) ≡ P .n
       left = let a = length-⊕ s (unpack (P .n) sumOf) in let b = length-unpack (P .n) sumOf in omega arith
-
-      right : length (s ⊕ secret (raws P salt e seeds)) ≡ P .n
-      right =
-          let a = length-⊕ s (secret (raws P salt e seeds)) in
-          let b = length-secret-le (P .n) (P .m) (raws P salt e seeds) (raws-sized P salt e seeds) in
-          omega arith
 
       entry : (k : ℕ) → k < P .n → (s ⊕ unpack (P .n) sumOf) ! k ≡ (s ⊕ secret (raws P salt e seeds)) ! k
       entry k g =
@@ -155,22 +144,12 @@ module _ (P : Params) (salt : List ℕ) (e : ℕ) (seeds : List (List ℕ)) wher
           ∙ ap (bitXor (s ! k)) (getD-unpack (P .n) sumOf k g ∙ nib-secret k g)
           ∙ sym (⊕-at s (secret (raws P salt e seeds)) k)
 
-  length-raws : length (raws P salt e seeds) ≡ length seeds
-  unfolding raws
-  length-raws = length-parties (rawShare P salt e) seeds
-
-  length-mask-raws : 0 < length seeds → length (mask (raws P salt e seeds)) ≡ P .m
-  length-mask-raws h = of-shares (raws P salt e seeds) (raws-sized P salt e seeds) (omega (arith, length-raws))
-    where
-      of-shares : (ps : List Share) → AllSized (P .n) (P .m) ps → 0 < length ps → length (mask ps) ≡ P .m
-      of-shares [] z g = absurd (omega arith)
-      of-shares (p ∷ ps) z g = length-mask (P .n) (P .m) p ps z
-
   -- algorithm 12, line 15
   pub correction-deltaC : (y : List ℕ) → length y ≡ P .m → 0 < length seeds → correctionC (P .n) (P .m) y sumOf ≡ deltaC P salt e y seeds
   unfolding correctionC deltaC
   correction-deltaC y h some =
-      ext-getD 0 (y ⊙ a ⊕ c) (y ⊙ mask (raws P salt e seeds) ⊕ helper (raws P salt e seeds)) (left ∙ sym right) (λ k g. entry k (omega (arith, left)))
+      ext-getD 0 (y ⊙ a ⊕ c) (y ⊙ mask (raws P salt e seeds) ⊕ helper (raws P salt e seeds)) (left ∙ sym (length-deltaC P salt e y seeds some h))
+      (λ k g. entry k (omega (arith, left)))
     where
       a : List ℕ
       a = unpack (P .m) (drop (packedLength (P .n)) sumOf)
@@ -184,14 +163,6 @@ module _ (P : Params) (salt : List ℕ) (e : ℕ) (seeds : List (List ℕ)) wher
           let m = length-⊙ y a in
           let b = length-unpack (P .m) (drop (packedLength (P .n)) sumOf) in
           let d = length-unpack (P .m) (drop (packedLength (P .n) + packedLength (P .m)) sumOf) in
-          omega arith
-
-      right : length (y ⊙ mask (raws P salt e seeds) ⊕ helper (raws P salt e seeds)) ≡ P .m
-      right =
-          let l = length-⊕ (y ⊙ mask (raws P salt e seeds)) (helper (raws P salt e seeds)) in
-          let m = length-⊙ y (mask (raws P salt e seeds)) in
-          let b = length-mask-raws some in
-          let d = length-helper-le (P .n) (P .m) (raws P salt e seeds) (raws-sized P salt e seeds) in
           omega arith
 
       entry : (k : ℕ) → k < P .m → (y ⊙ a ⊕ c) ! k ≡ (y ⊙ mask (raws P salt e seeds) ⊕ helper (raws P salt e seeds)) ! k

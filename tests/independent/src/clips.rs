@@ -186,7 +186,6 @@ fn cases(clips: &BTreeMap<String, Vec<u8>>) -> Vec<Case> {
 }
 
 /// A byte of every section of an envelope: its name, its place and what is turned over in it.
-/// The slow sets have the sections that the fast ones don't show.
 fn sections(p: &Parameters, last: usize) -> Vec<(&'static str, usize, u8)> {
     let seed = p.seed_bytes();
     let key = HEADER_BYTES;
@@ -195,32 +194,26 @@ fn sections(p: &Parameters, last: usize) -> Vec<(&'static str, usize, u8)> {
     let vectors = repetition(p.tau + 1);
     let alphas = vectors + p.tau * (p.n + p.m) / 2;
     let message = signature + p.signature_bytes();
-    let of_every_set = vec![
-        ("first of the paths", repetition(1), 0x01),
-        ("last commitment", vectors - 1, 0x80),
-        ("first alpha", alphas + 1, 0x10),
-    ];
-    let of_fast_sets = vec![
+    vec![
         ("circuit seed", key, 0x01),
         ("t of the key", key + seed, 0x01),
         ("last four bits of the key", signature - 1, 0x80),
         ("salt", signature, 0x02),
         ("first hash", signature + 2 * seed, 0x04),
         ("second hash", signature + 4 * seed, 0x08),
+        ("first of the paths", repetition(1), 0x01),
         (
             "last of the paths",
             repetition(p.tau) + p.levels * seed - 1,
             0x20,
         ),
         ("first commitment", repetition(1) + p.levels * seed, 0x40),
+        ("last commitment", vectors - 1, 0x80),
         ("correction of s", vectors, 0x01),
         ("correction of c", vectors + p.n / 2 + 1, 0x10),
+        ("first alpha", alphas + 1, 0x10),
         ("last alpha", message - 1, 0x80),
         ("first byte of the message", message, 0x01),
         ("last byte of the message", last, 0x80),
-    ];
-    match p.levels {
-        4 => [of_every_set, of_fast_sets].concat(),
-        _ => of_every_set,
-    }
+    ]
 }

@@ -5,10 +5,10 @@ use mathlib.Core.List.{List, flatten}
 use Prim.Native.Nat.{ℕ, _-_, _*_, _≤_, _<_}
 use lib.ListN.{take, drop}
 use Rattle.memory.proofs.Lists.{room}
+use Rattle.memory.proofs.Xors.{length-sized}
 use Rattle.field.specs.Packing.{pack}
 use Rattle.answers.specs.Passes.{VsOf, HoldsGroup}
 use Rattle.answers.proofs.Absorbing.{Absorbing, absorbing-start, absorbing-group, absorbing-end}
-use Rattle.group.proofs.Shares.{part-sized}
 use Rattle.answers.proofs.Turning.{vs-vectors, part-again}
 use Rattle.answers.proofs.second_pass.Statement.{statement}
 use Rattle.answers.proofs.second_pass.Tie as tie
@@ -46,7 +46,7 @@ v-turn-requires : tie.Need-v-turn-requires Inv-loop μ-loop
 v-turn-requires c κs =
     let s = c .before .before .before .before .before .before .before in
     let l = s .pre .5 in
-    (s .pre .0, c .before .loop-test .taken, s .pre .2, s .pre .3, s .pre .4, part-sized (s .args .room .now) (c .before .before .loop .g * (16 * s .args .rep .m)) (16 * s .args .rep .m) (omega (arith, (room (c .before .before .loop .g) (c .before .before .before .before .before .before .before .args .rep .groups) (16 * c .before .before .before .before .before .before .before .args .rep .m) (c .before .loop-test .taken)))))
+    (s .pre .0, c .before .loop-test .taken, s .pre .2, s .pre .3, s .pre .4, length-sized (s .args .room .now) (c .before .before .loop .g * (16 * s .args .rep .m)) (16 * s .args .rep .m) (omega (arith, (room (c .before .before .loop .g) (c .before .before .before .before .before .before .before .args .rep .groups) (16 * c .before .before .before .before .before .before .before .args .rep .m) (c .before .loop-test .taken)))))
 
 add-g : tie.Need-add-g Inv-loop μ-loop
 add-g c = let t = c .before .before .loop-test .taken in let z = c .before .before .before .before .before .before .before .before .pre .0 .groups in omega arith

@@ -4,7 +4,7 @@ use mathlib.Core.Path.{sym, ap, _∙_}
 use native.Mathlib.Omega.{arith}
 use Prim.Native.Nat.{ℕ, _+_, _*_}
 use Rattle.memory.proofs.Lists.{room}
-use Rattle.group.proofs.Shares.{part-sized}
+use Rattle.memory.proofs.Xors.{length-sized}
 use Rattle.answers.specs.Passes.{roomAt}
 use Rattle.answers.proofs.Turning.{zeros-sized, lent-same, lent-sized, lent-fits, turn-done}
 use Rattle.answers.proofs.Work.{part-back, front-back, work-kept}
@@ -127,7 +127,7 @@ taken-requires c κs =
       s .pre .5 ∙ sym f,
       s .pre .6 ∙ sym f,
       s .pre .7 ∙ sym f,
-      part-sized (s .args .work .now) (a .result + s .args .g * (16 * s .args .rep .m)) (16 * s .args .rep .m) (omega (arith, room (s .args .g) (s .args .rep .groups) (16 * s .args .rep .m) (s .pre .1))) ∙ ap (λ (n : ℕ). 16 * n) (sym f),
+      length-sized (s .args .work .now) (a .result + s .args .g * (16 * s .args .rep .m)) (16 * s .args .rep .m) (omega (arith, room (s .args .g) (s .args .rep .groups) (16 * s .args .rep .m) (s .pre .1))) ∙ ap (λ (n : ℕ). 16 * n) (sym f),
     )
 
 same-length : tie.Need-same-length

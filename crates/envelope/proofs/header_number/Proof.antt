@@ -51,12 +51,11 @@ returns-4 c =
 returns-5 : tie.Need-returns-5
 unfolding headerNumber
 returns-5 c =
-    simp (
-      agree {n = theVersion} refl (c .before .before .before .before .before .before .if1 .left),
-      tested (c .before .before .before .before .before .before .before .before .bad-set .ensures) (c .before .before .before .before .before .if2 .left),
-      within (c .before .before .before .before .message-limit .ensures) (c .before .before .if3 .left),
-      agree (ap (λ (p : Places). p .end) (c .before .placed .ensures)) (c .if4 .left),
-    )
+    let version = agree {n = theVersion} refl (c .before .before .before .before .before .before .if1 .left) in
+    let set = tested (c .before .before .before .before .before .before .before .before .bad-set .ensures) (c .before .before .before .before .before .if2 .left) in
+    let message = within (c .before .before .before .before .message-limit .ensures) (c .before .before .if3 .left) in
+    let total = agree (ap (λ (p : Places). p .end) (c .before .placed .ensures)) (c .if4 .left) in
+    simp (version, set, message, total)
 
 pub header-number-spec : {M : Type 1} → statement M
 header-number-spec =

@@ -1,5 +1,7 @@
 -- `envelope::placed` meets its contract: keys and signatures are small, so no sum wraps. Assumes nothing.
 use borrow.Author.Needs.{needs}
+use mathlib.Core.Path.{ap₂}
+use Prim.Native.Nat.{ℕ, _+_}
 use native.Mathlib.Omega.{arith}
 use Rattle.envelope.proofs.Sizes.{public-key-small, signature-small}
 use Rattle.envelope.proofs.placed.Statement.{statement}
@@ -28,7 +30,7 @@ add-t4 c =
     omega arith
 
 returns : tie.Need-returns
-returns c = cc (c .before .before .public-key-len .ensures, c .before .signature-len .ensures)
+returns c = ap₂ (λ (k s : ℕ). record { key = 3; signature = 3 + k; message = 3 + k + s; end = 3 + k + s + c .before .before .before .args .h .length }) (c .before .before .public-key-len .ensures) (c .before .signature-len .ensures)
 
 pub placed-spec : {M : Type 1} → statement M
 placed-spec =

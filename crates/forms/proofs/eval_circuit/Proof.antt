@@ -4,8 +4,9 @@ use mathlib.Core.Path.{sym, ap, ap₂, _∙_}
 use Prim.Native.Nat.{ℕ, _+_, _*_, _/_, _%_}
 use native.Mathlib.Omega.{arith}
 use lib.ListN.{replicate}
+use Rattle.field.proofs.Packing.{half-up}
 use Rattle.forms.specs.Circuit.{affineLength}
-use Rattle.forms.proofs.Room.{half-up, rows-size, affine-size, affine-two, circuit-three}
+use Rattle.forms.proofs.Room.{rows-size, affine-size, affine-two, circuit-three}
 use Rattle.forms.proofs.Evaluated.{evaluated}
 use borrow.Author.Needs.{needs}
 use Rattle.forms.proofs.eval_circuit.Statement.{statement}

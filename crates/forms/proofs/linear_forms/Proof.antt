@@ -4,7 +4,8 @@ use mathlib.Core.Path.{_≡_, ap, _∙_}
 use Prim.Native.Nat.{ℕ, _+_, _*_, _/_, _%_}
 use native.Mathlib.Omega.{arith}
 use lib.ListN.{length, replicate}
-use Rattle.forms.proofs.Room.{half-up, rows-size, affine-size, affine-two, circuit-three}
+use Rattle.field.proofs.Packing.{half-up}
+use Rattle.forms.proofs.Room.{rows-size, affine-size, affine-two, circuit-three}
 use Rattle.forms.proofs.Shares.{linear-values}
 use borrow.Author.Needs.{needs}
 use Rattle.forms.proofs.linear_forms.Statement.{statement}

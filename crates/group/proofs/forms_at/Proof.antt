@@ -3,10 +3,10 @@
 use mathlib.Core.Path.{_≡_, refl, sym, _∙_}
 use native.Mathlib.Omega.{arith}
 use Rattle.forms.specs.Room.{circuitIn}
-use Rattle.forms.proofs.Room.{affine-size}
+use Rattle.forms.proofs.Room.{affine-size, holds-circuit}
 use Rattle.marks.proofs.Marks.{mark-flags}
 use Rattle.group.proofs.Shares.{rows-room}
-use Rattle.group.proofs.Answers.{parts-held, holds-own}
+use Rattle.group.proofs.Answers.{parts-held}
 use borrow.Author.Needs.{needs}
 use Rattle.group.proofs.forms_at.Statement.{statement}
 use Rattle.group.proofs.forms_at.Tie as tie
@@ -61,7 +61,7 @@ returns c = λ share h.
     let s = c .before .before .before .before .before .before .before .before .before .before .before .before .before .before .before .before .before .before .before .before .before .before .before .before .before .before .before .before in
     parts-held (s .args .g) _ (s .args .rep .m) (c .before .before .before .before .before .before .before .before .before .before .before .before .before .before .before .before .before .before .before .before .before .before .mark .ensures) share (s .args .rep .n) _ _ _ _ _ _ _ _ (affine-size (s .args .rep .n) (s .args .rep .m))
     (c .before .before .before .before .before .before .before .before .before .before .before .before .before .before .before .before .before .before .linear-forms .kept .1 .1 .1 .1 .0 ∙ s .pre .4) (c .before .before .before .before .before .before .before .before .before .before .before .before .before .before .before .before .before .before .linear-forms .kept .1 .1 .1 .1 .1 .0 ∙ s .pre .5) (c .before .before .before .before .before .before .before .before .before .before .before .before .before .before .before .before .before .before .linear-forms .kept .1 .1 .1 .1 .1 .1 .0 ∙ s .pre .6) (c .before .before .before .before .before .before .before .before .before .before .add-constants .kept .0) (c .before .before .before .before .before .before .add-constants2 .kept .0) (c .before .before .add-constants3 .kept .0)
-    (c .before .before .before .before .before .before .before .before .before .before .before .before .before .before .before .before .before .before .linear-forms .ensures (circuitIn (s .args .rep .n) (s .args .rep .m) (s .args .circuit .now)) share (holds-own _ _ _) h)
+    (c .before .before .before .before .before .before .before .before .before .before .before .before .before .before .before .before .before .before .linear-forms .ensures (circuitIn (s .args .rep .n) (s .args .rep .m) (s .args .circuit .now)) share (holds-circuit _ _ _) h)
     (c .before .before .before .before .before .before .before .before .before .before .add-constants .ensures) (c .before .before .before .before .before .before .add-constants2 .ensures) (c .before .before .add-constants3 .ensures)
 
 pub forms-at-spec : {M : Type 1} → statement M

@@ -3,8 +3,9 @@
 use mathlib.Core.Path.{_≡_, refl, sym, _∙_}
 use Prim.Native.Nat.{_+_, _*_, _/_, _%_}
 use native.Mathlib.Omega.{arith}
+use Rattle.memory.proofs.Xors.{length-sized}
 use Rattle.marks.proofs.Marks.{mark-flags}
-use Rattle.group.proofs.Shares.{part-sized, mask-place, helper-place}
+use Rattle.group.proofs.Shares.{mask-place, helper-place}
 use Rattle.group.proofs.Answers.{answers-held, held-part}
 use borrow.Author.Needs.{needs}
 use Rattle.group.proofs.mixed.Statement.{statement}
@@ -61,7 +62,7 @@ part-alpha-words-end c = let s = c .before .before .before .before .before .befo
 alpha-words-requires : tie.Need-alpha-words-requires
 alpha-words-requires c κs =
     let s = c .before .before .before .before .before .before .before .before .before .before .before .before .before .before .before .before .before .before .before .before .before .before .before in let u = s .pre .0 .variables in let w = s .pre .0 .equations in let t = s .pre .5 in
-    (s .pre .0, s .pre .1, s .pre .3, s .pre .4, part-sized (s .args .words .now) ((s .args .rep .n / 2 + s .args .rep .n % 2) * 2) (s .args .rep .m) (omega arith), c .before .before .before .before .before .before .before .before .forms-at .kept .1 .1 .1 .1 .0 ∙ s .pre .6)
+    (s .pre .0, s .pre .1, s .pre .3, s .pre .4, length-sized (s .args .words .now) ((s .args .rep .n / 2 + s .args .rep .n % 2) * 2) (s .args .rep .m) (omega arith), c .before .before .before .before .before .before .before .before .forms-at .kept .1 .1 .1 .1 .0 ∙ s .pre .6)
 
 mark-requires : tie.Need-mark-requires
 mark-requires c κs = c .before .before .before .before .before .before .before .before .before .before .before .before .before .before .before .before .before .before .before .before .before .before .before .before .before .before .before .pre .1
@@ -84,7 +85,7 @@ part-rest-words-end c = let s = c .before .before .before .before .before .befor
 rest-words-requires : tie.Need-rest-words-requires
 rest-words-requires c κs =
     let s = c .before .before .before .before .before .before .before .before .before .before .before .before .before .before .before .before .before .before .before .before .before .before .before .before .before .before .before .before .before .before .before .before .before in let u = s .pre .0 .variables in let w = s .pre .0 .equations in let t = s .pre .5 in
-    (s .pre .0, s .pre .1, s .pre .3, s .pre .4, part-sized (s .args .words .now) ((s .args .rep .n / 2 + s .args .rep .n % 2 + (s .args .rep .m / 2 + s .args .rep .m % 2)) * 2) (s .args .rep .m) (omega arith), c .before .before .before .before .before .before .before .before .before .before .before .before .before .before .before .before .before .before .forms-at .kept .1 .1 .1 .1 .1 .1 .0 ∙ s .pre .8)
+    (s .pre .0, s .pre .1, s .pre .3, s .pre .4, length-sized (s .args .words .now) ((s .args .rep .n / 2 + s .args .rep .n % 2 + (s .args .rep .m / 2 + s .args .rep .m % 2)) * 2) (s .args .rep .m) (omega arith), c .before .before .before .before .before .before .before .before .before .before .before .before .before .before .before .before .before .before .forms-at .kept .1 .1 .1 .1 .1 .1 .0 ∙ s .pre .8)
 
 same-length : tie.Need-same-length
 same-length c = c .before .before .before .before .before .before .before .before .before .before .before .before .alpha-words .kept .1 .1 .1 .1 .0 ∙ c .before .before .before .before .before .before .before .before .before .before .before .before .before .before .before .before .before .before .before .before .before .forms-at .kept .1 .1 .1 .1 .0

@@ -5,10 +5,10 @@ use native.Mathlib.Omega.{arith}
 use mathlib.Core.List.{List}
 use Prim.Native.Nat.{ℕ, suc, _+_, _-_, _*_, _≤_}
 use lib.ListN.{length, take, drop}
+use Rattle.memory.proofs.Xors.{length-sized}
 use Rattle.sponge.specs.Sponge.{shake256}
 use Rattle.hashes.specs.Hashes.{tapeFields}
 use Rattle.group.specs.Shares.{tapesOf}
-use Rattle.group.proofs.Shares.{part-sized}
 use Rattle.group.proofs.Tapes.{TapesTo, tapes-none, tapes-more, tapes-all, tape-of-party, seed-room}
 use borrow.Author.Needs.{needs}
 use Rattle.group.proofs.sixteen_tapes.Statement.{statement}
@@ -52,7 +52,7 @@ one-tape-requires c κs =
     let s = c .before .before .before .before .before .before .before in
     let l = s .pre .3 in
     let w = s .pre .0 .seed in
-    let e = part-sized (s .args .leaves .now) ((16 * s .args .g + c .before .before .before .loop .q) * s .args .rep .s) (s .args .rep .s) (omega (arith, (let s = c .before .before .before .before .before .before .before in seed-room (s .args .g) (s .args .rep .groups) (c .before .before .before .loop .q) (s .args .rep .s) (s .pre .1) (c .before .before .loop-test .taken)))) in
+    let e = length-sized (s .args .leaves .now) ((16 * s .args .g + c .before .before .before .loop .q) * s .args .rep .s) (s .args .rep .s) (omega (arith, (let s = c .before .before .before .before .before .before .before in seed-room (s .args .g) (s .args .rep .groups) (c .before .before .before .loop .q) (s .args .rep .s) (s .pre .1) (c .before .before .loop-test .taken)))) in
     (s .pre .0, c .before .before .loop-test .taken, s .pre .2, omega arith, c .before .before .before .loop .inv .1 ∙ s .pre .4)
 
 add-q : tie.Need-add-q Inv-loop μ-loop

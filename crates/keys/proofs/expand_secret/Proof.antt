@@ -1,7 +1,7 @@
 -- `keys::expand_secret` meets its contract. Assumes nothing.
 use lib.ListN.{length}
 use borrow.Author.Needs.{needs}
-use Rattle.forms.proofs.Room.{half-up}
+use Rattle.field.proofs.Packing.{half-up}
 use Rattle.keys.proofs.expand_secret.Statement.{statement}
 use Rattle.keys.proofs.expand_secret.Tie as tie
 

@@ -5,7 +5,8 @@ use Prim.Native.Nat.{_+_, _-_, _%_, _≤_}
 use native.Mathlib.Omega.{arith}
 use lib.ListN.{length, drop, length-drop}
 use lib.Seq.{length-take-le}
-use Rattle.lanes.proofs.Groups.{TurnedTo, length-part, turned-none, turned-more, turned-all}
+use Rattle.memory.proofs.Parts.{length-back}
+use Rattle.lanes.proofs.Groups.{TurnedTo, turned-none, turned-more, turned-all}
 use borrow.Author.Needs.{needs}
 use Rattle.lanes.proofs.to_lanes.Statement.{statement}
 use Rattle.lanes.proofs.to_lanes.Tie as tie
@@ -64,7 +65,7 @@ loop-again c =
     let l = c .before .before .before .before .before .before .loop in
     let room : l .at + 16 ≤ length (l .out) = omega arith in
     let count : length (t .last .1 .0) ≡ 16 = t .kept .1 .0 ∙ length-take-le (l .at + 16 - l .at) (drop (l .at) (l .out)) (simp length-drop (omega arith)) ∙ omega arith in (
-      length-part (l .out) (t .last .1 .0) (l .at) (l .at + 16) (omega arith) (omega arith) (omega arith) ∙ l .inv .0,
+      length-back (l .out) (t .last .1 .0) (l .at) (l .at + 16) (omega arith) (omega arith) (omega arith) ∙ l .inv .0,
       omega arith,
       omega arith,
       turned-more _ _ _ _ (l .inv .1) room count (l .inv .3) (t .ensures),

@@ -5,7 +5,7 @@ use Rattle.sets.specs.Sets.{S}
 use Rattle.refusals.proofs.Refusals.{workLength-is}
 use Rattle.biscuit.proofs.Room.{mapped}
 use Rattle.passes.proofs.Bounds.{root-end}
-use Rattle.replies.proofs.Lending.{rep-sized, rep-nobody, rep-values, rep-equations, circuit-size, leaf-size, alpha-lent}
+use Rattle.replies.proofs.Lending.{rep-sized, rep-values, rep-equations, circuit-size, leaf-size, alpha-lent}
 use Rattle.replies.proofs.alpha_leaf.Statement.{statement}
 use Rattle.replies.proofs.alpha_leaf.Tie as tie
 
@@ -58,7 +58,7 @@ alpha-of-requires c κs =
     let r = c .before .before .before .rep-of .ensures in
     let q = h .5 in
     let b = f .seed in
-    (rep-sized _ _ f _ r, rep-nobody _ _ f _ r, h .3, h .4, omega arith, circuit-size (s .args .p) _ f _ r (s .args .work .now) (h .8) _ (c .before .before .before .before .before .before .layout-of .ensures .leaves), rep-values (s .args .p) _ f _ r (s .args .values .now) (h .6), h .7, leaf-size (s .args .p) f _ _ (s .args .work .now) refl, rep-equations (s .args .p) _ f _ r (s .args .alpha .now) (h .9))
+    (rep-sized _ _ f _ r, omega arith, circuit-size (s .args .p) _ f _ r (s .args .work .now) (h .8) _ (c .before .before .before .before .before .before .layout-of .ensures .leaves), rep-values (s .args .p) _ f _ r (s .args .values .now) (h .6), leaf-size (s .args .p) f _ _ (s .args .work .now) refl, rep-equations (s .args .p) _ f _ r (s .args .alpha .now) (h .9))
 
 same-length : tie.Need-same-length
 same-length c = c .before .before .alpha-of .kept .1 .1 .1 .1 .1 .1 .0

@@ -2,8 +2,9 @@
 use mathlib.Core.Path.{refl}
 use Prim.Native.Nat.{_+_}
 use native.Mathlib.Omega.{arith}
+use Rattle.memory.proofs.Parts.{length-lent}
 use Rattle.passes.proofs.Bounds.{corrections-end, packing-small}
-use Rattle.biscuit.proofs.Parts.{length-lent, four-length}
+use Rattle.biscuit.proofs.Parts.{four-length}
 use Rattle.replies.proofs.Values.{filled-values}
 use borrow.Author.Needs.{needs}
 use Rattle.replies.proofs.fill_values.Statement.{statement}

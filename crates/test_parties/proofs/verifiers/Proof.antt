@@ -1,24 +1,26 @@
--- `test_parties::verifiers` is safe and ends: i counts the four verifiers, and the parts keep their lengths.
+-- `test_parties::verifiers` is safe and ends: i counts the cases, and the parts keep their lengths.
 -- Assumes nothing.
 use mathlib.Core.Path.{_≡_}
-use Prim.Native.Nat.{_≤_, _+_, _-_, _*_}
-use native.Mathlib.Omega.{arith}
+use Prim.Native.Nat.{_≤_, _-_}
 use lib.ListN.{length}
 use borrow.Author.Needs.{needs}
 use Rattle.test_parties.proofs.verifiers.Statement.{statement}
 use Rattle.test_parties.proofs.verifiers.Tie as tie
 
 abbrev Inv-loop : tie.InvT-loop
-Inv-loop rep k salt h1 leaves₀ values₀ work₀ i₀ leaves values work i = (i ≤ 4) × (length leaves ≡ k .all) × (length values ≡ rep .n + 4 * rep .m) × (length work ≡ k .end)
+Inv-loop set salt h1 values₀ work₀ i₀ values work i = (i ≤ 5) × (length values ≡ 602) × (length work ≡ 60768)
 
 abbrev μ-loop : tie.MeasureT-loop
-μ-loop rep k salt h1 leaves₀ values₀ work₀ i₀ leaves values work i = 4 - i
+μ-loop set salt h1 values₀ work₀ i₀ values work i = 5 - i
 
 loop-holds : tie.Need-loop-holds Inv-loop μ-loop
 loop-holds c = search needs
 
-verifier-requires : tie.Need-verifier-requires Inv-loop μ-loop
-verifier-requires c κs = search needs
+of-requires : tie.Need-of-requires Inv-loop μ-loop
+of-requires c κs = search needs
+
+lines-requires : tie.Need-lines-requires Inv-loop μ-loop
+lines-requires c κs = search needs
 
 add-i : tie.Need-add-i Inv-loop μ-loop
 add-i c = search needs
@@ -35,9 +37,6 @@ same-length c = search needs
 same-length-2 : tie.Need-same-length-2 Inv-loop μ-loop
 same-length-2 c = search needs
 
-same-length-3 : tie.Need-same-length-3 Inv-loop μ-loop
-same-length-3 c = search needs
-
 returns : tie.Need-returns Inv-loop μ-loop
 returns c = search needs
 
@@ -48,11 +47,11 @@ verifiers-spec =
     Inv-loop
     μ-loop
     loop-holds
-    verifier-requires
+    of-requires
+    lines-requires
     add-i
     loop-less
     loop-again
     same-length
     same-length-2
-    same-length-3
     returns)

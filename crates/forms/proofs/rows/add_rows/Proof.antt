@@ -1,94 +1,99 @@
--- `forms::rows::add_rows` meets its contract. The invariant: the first k words have their row added, the others are as they were, and the next row stands at `from`.
+-- `forms::rows::add_rows` meets its contract. A block is the callee's. The invariant otherwise: the first i bytes of each row are added.
 -- Assumes nothing.
-use mathlib.Core.Path.{_≡_, refl, subst, _∙_}
+use mathlib.Core.Path.{_≡_, refl, sym, ap, subst, _∙_}
 use mathlib.Core.List.{List}
 use Prim.Native.Nat.{ℕ, _+_, _-_, _*_, _≤_}
 use native.Mathlib.Omega.{arith}
-use lib.ListN.{length, getD, length-set}
-use lib.Seq.{getD-set-other}
-use Rattle.memory.proofs.Copied.{next-row}
-use Rattle.memory.proofs.Lists.{room}
-use Rattle.forms.specs.Rows.{PairsFrom, RowAdded, RowsAdded}
-use Rattle.forms.proofs.Added.{RowsUpTo, rows-more, row-lent}
+use lib.ListN.{length}
+use Rattle.forms.specs.Rows.{PairsFrom, RowsAdded}
+use Rattle.forms.proofs.Added.{pairs-part, rows-none, rows-on}
 use borrow.Author.Needs.{needs}
 use Rattle.forms.proofs.rows.add_rows.Statement.{statement}
 use Rattle.forms.proofs.rows.add_rows.Tie as tie
 
 abbrev Inv-loop : tie.InvT-loop
-Inv-loop circuit start width count pairs out₀ k₀ from₀ out k from =
-    (k ≤ length out₀) × (length out ≡ length out₀) × (from ≡ start + k * width)
-    × ((j : ℕ) → k ≤ j → getD out j 0 ≡ getD out₀ j 0)
-    × ((s : List ℕ) (a : ℕ) → PairsFrom s a count pairs → RowsUpTo k circuit start width s a (count * 2) out₀ out)
+Inv-loop circuit start width count pairs out₀ i₀ out i =
+    (i ≤ count) × (length out ≡ length out₀) × ((s : List ℕ) (a : ℕ) → PairsFrom s a count pairs → RowsAdded circuit start width s a (i * 2) out₀ out)
 
 abbrev μ-loop : tie.MeasureT-loop
-μ-loop circuit start width count pairs out₀ k₀ from₀ out k from = length out₀ - k
+μ-loop circuit start width count pairs out₀ i₀ out i = count - i
+
+add-block-rows-requires : tie.Need-add-block-rows-requires Inv-loop μ-loop
+add-block-rows-requires c κs = search needs
+
+same-length : tie.Need-same-length Inv-loop μ-loop
+same-length c = search needs
+
+returns : tie.Need-returns Inv-loop μ-loop
+returns c =
+    let a = c .before .before .before .before .before .before .before .before .args in
+    let d = c .before .before .add-block-rows in
+    let e : a .count ≡ 8 = omega arith in
+    λ s p m.
+    subst (λ (k : ℕ). RowsAdded (a .circuit .now) (a .start) (a .width) s p (k * 2) (a .out .now) (d .last .1 .1 .1 .1 .0)) (sym e)
+    (d .ensures s p (subst (λ (k : ℕ). PairsFrom s p k (a .pairs .now)) e m))
 
 loop-holds : tie.Need-loop-holds Inv-loop μ-loop
-loop-holds c = (omega arith, refl, omega arith, λ j h. refl, λ s a m j h. absurd (omega arith))
+loop-holds c =
+    let a = c .before .before .before .before .args in
+    (omega arith, refl, λ s p m. rows-none (a .circuit .now) (a .start) (a .width) s p (a .out .now))
+
+mul-a : tie.Need-mul-a Inv-loop μ-loop
+mul-a c = search needs
 
 add-e : tie.Need-add-e Inv-loop μ-loop
-add-e c = let l = c .before .loop in let a = c .before .before .before .before .before .args in let r = room (l .k) (length (a .out .now)) (a .width) (omega arith) in omega arith
+add-e c = search needs
 
-mul-add-row : tie.Need-mul-add-row Inv-loop μ-loop
-mul-add-row c = search needs
+add-add-byte-rows : tie.Need-add-add-byte-rows Inv-loop μ-loop
+add-add-byte-rows c = search needs
 
-slice-read-add-row : tie.Need-slice-read-add-row Inv-loop μ-loop
-slice-read-add-row c = search needs
+mul-add-byte-rows : tie.Need-mul-add-byte-rows Inv-loop μ-loop
+mul-add-byte-rows c = search needs
 
-sub-add-row : tie.Need-sub-add-row Inv-loop μ-loop
-sub-add-row c = search needs
+sub-add-byte-rows : tie.Need-sub-add-byte-rows Inv-loop μ-loop
+sub-add-byte-rows c = search needs
 
-part-add-row-start : tie.Need-part-add-row-start Inv-loop μ-loop
-part-add-row-start c = omega arith
+part-add-byte-rows-start : tie.Need-part-add-byte-rows-start Inv-loop μ-loop
+part-add-byte-rows-start c = search needs
 
-part-add-row-end : tie.Need-part-add-row-end Inv-loop μ-loop
-part-add-row-end c = let l = c .before .before .loop in let a = c .before .before .before .before .before .before .args in let r = room (l .k) (length (a .out .now)) (a .width) (omega arith) in omega arith
+part-add-byte-rows-end : tie.Need-part-add-byte-rows-end Inv-loop μ-loop
+part-add-byte-rows-end c = search needs
 
-add-row-requires : tie.Need-add-row-requires Inv-loop μ-loop
-add-row-requires c κs = search needs
+add-byte-rows-requires : tie.Need-add-byte-rows-requires Inv-loop μ-loop
+add-byte-rows-requires c κs =
+    let l = c .before .before .before .loop in
+    let a = c .before .before .before .before .before .before .before .before .args in
+    let e : length (l .out) * a .width ≡ length (a .out .now) * a .width = ap (λ (n : ℕ). n * a .width) (l .inv .1) in
+    (omega arith, omega arith, search needs)
 
-mul-out : tie.Need-mul-out Inv-loop μ-loop
-mul-out c = search needs
-
-slice-write-out : tie.Need-slice-write-out Inv-loop μ-loop
-slice-write-out c = search needs
-
-add-from : tie.Need-add-from Inv-loop μ-loop
-add-from c = let l = c .before .before .before .before .loop in let a = c .before .before .before .before .before .before .before .before .args in let r = room (l .k) (length (a .out .now)) (a .width) (omega arith) in omega arith
-
-add-k : tie.Need-add-k Inv-loop μ-loop
-add-k c = search needs
+add-i : tie.Need-add-i Inv-loop μ-loop
+add-i c = search needs
 
 loop-less : tie.Need-loop-less Inv-loop μ-loop
 loop-less c = search needs
 
 loop-again : tie.Need-loop-again Inv-loop μ-loop
 loop-again c =
-    let l = c .before .before .before .before .loop in
-    let t = c .before .before .before .loop-test in
-    let a = c .before .before .before .before .before .before .before .before .args in
-    let n : (l .k + 1) * a .width ≡ l .k * a .width + a .width = next-row (l .k) (a .width) in (
+    let d = c .before .before .add-byte-rows in
+    let t = c .before .before .before .before .before .loop-test .taken in
+    let l = c .before .before .before .before .before .before .loop in
+    let a = c .before .before .before .before .before .before .before .before .before .before .before .args in (
       omega arith,
-      simp length-set (omega arith),
-      omega arith,
-      λ j h. getD-set-other (l .out) (l .k) j (c .add-row .result) 0 (λ e. omega arith) ∙ l .inv .3 j (omega arith),
+      d .kept .1 .1 .1 .1 .0 ∙ l .inv .1,
       λ s p m.
-          let o = a .out .now in
-          let r = room (l .k) (length o) (a .width) (omega arith) in
-          let row = row-lent (a .circuit .now) (l .from) (a .count) (a .pairs .now) s p (getD (l .out) (l .k) 0) (c .add-row .result) (omega arith) m (c .add-row .ensures s p) in
-          rows-more (l .k) (a .circuit .now) (a .start) (a .width) s p (a .count * 2) o (l .out) (c .add-row .result) (t .taken) (l .inv .3 (l .k) (omega arith)) (l .inv .4 s p m)
-          (subst (λ (i : ℕ). RowAdded (a .circuit .now) (i * 2) s p (a .count * 2) (getD (l .out) (l .k) 0) (c .add-row .result)) (l .inv .2) row),
+          rows-on (a .circuit .now) (a .start) (a .start + l .i) (l .i) 1 (a .width) s p (a .out .now) (l .out) (d .last .1 .1 .1 .1 .0) refl (l .inv .1) (l .inv .2 s p m)
+          (d .ensures s (p + l .i * 2) (pairs-part s (a .pairs .now) p (a .count) (l .i) m t)),
     )
 
-same-length : tie.Need-same-length Inv-loop μ-loop
-same-length c = search needs
+same-length-2 : tie.Need-same-length-2 Inv-loop μ-loop
+same-length-2 c = search needs
 
-returns : tie.Need-returns Inv-loop μ-loop
-unfolding RowsAdded
-returns c =
+returns-2 : tie.Need-returns-2 Inv-loop μ-loop
+returns-2 c =
     let l = c .before .loop in
-    let a = c .before .before .before .before .before .args in
-    λ s p m k h. l .inv .4 s p m k (omega arith)
+    let a = c .before .before .before .before .before .before .args in
+    let e : l .i ≡ a .count = omega arith in
+    λ s p m. subst (λ (k : ℕ). RowsAdded (a .circuit .now) (a .start) (a .width) s p (k * 2) (a .out .now) (l .out)) e (l .inv .2 s p m)
 
 pub add-rows-spec : {M : Type 1} → statement M
 add-rows-spec =
@@ -96,19 +101,20 @@ add-rows-spec =
     (tie.spec
     Inv-loop
     μ-loop
+    add-block-rows-requires
+    same-length
+    returns
     loop-holds
+    mul-a
     add-e
-    mul-add-row
-    slice-read-add-row
-    sub-add-row
-    part-add-row-start
-    part-add-row-end
-    add-row-requires
-    mul-out
-    slice-write-out
-    add-from
-    add-k
+    add-add-byte-rows
+    mul-add-byte-rows
+    sub-add-byte-rows
+    part-add-byte-rows-start
+    part-add-byte-rows-end
+    add-byte-rows-requires
+    add-i
     loop-less
     loop-again
-    same-length
-    returns)
+    same-length-2
+    returns-2)

@@ -12,10 +12,11 @@ use Rattle.memory.proofs.Lists.{room}
 use Rattle.memory.proofs.Parts.{copied-more}
 use Rattle.field.specs.Packing.{packedLength, nib, unpack}
 use Rattle.field.specs.Vectors.{_⊕_, dot}
+use Rattle.field.proofs.Packing.{half-up}
 use Rattle.forms.specs.Circuit.{affine}
 use Rattle.forms.specs.Room.{affineIn}
 use Rattle.forms.proofs.Evaluated.{length-added, added-at}
-use Rattle.forms.proofs.Room.{half-up, packed-holds, affine-two}
+use Rattle.forms.proofs.Room.{packed-holds, affine-two}
 use borrow.Author.Needs.{needs}
 use Rattle.forms.proofs.values.add_affine.Statement.{statement}
 use Rattle.forms.proofs.values.add_affine.Tie as tie

@@ -1,0 +1,4 @@
+pub mod Alpha
+pub mod Vector
+pub mod Weighing
+pub mod OneOutcome
