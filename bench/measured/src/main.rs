@@ -67,6 +67,7 @@ fn main() {
     let table = table::table(&machine, &rows);
     print!("{table}");
     std::fs::write(picture, picture::draw(&machine, &rows)).expect("the picture is written");
+    eprintln!("drawn to {picture}");
     if let Some(document) = document {
         let text = std::fs::read_to_string(document).expect("the document is read");
         std::fs::write(document, table::put_between_marks(&text, &table)).expect("the document is written");

@@ -74,6 +74,10 @@ module _ (m : ℕ) (l : List (List ℕ)) (sized : Vectors m l) (n : ℕ) (room :
     held = λ q k h g. ap (λ (v : List ℕ). getD v k 0) (entry q h) ∙ sym (held k q g h);
   }
 
+-- the only group
+pub packs-one : (m : ℕ) (l : List (List ℕ)) → Vectors m l → length l ≡ 16 → (words : List ℕ) → length words ≡ m → InLanes 0 l words → Packs l words
+packs-one m l sized e words lw held = subst (λ (vs : List (List ℕ)). Packs vs words) (take-all 16 l (omega arith)) (packs-group m l sized 0 (omega arith) words lw held)
+
 -- ---- from the first group to the last
 
 pub absorbing-start : (s : Sponge) (l : List (List ℕ)) → Absorbing s s (pack (flatten (take (16 * 0) l))) 0
@@ -84,6 +88,14 @@ pub absorbing-group : (m : ℕ) (l : List (List ℕ)) → Vectors m l → (n : �
     → Absorbing s r (pack (flatten (take (16 * n) l))) n → r′ ≡ absorbed r (pack (flatten (take 16 (drop (16 * n) l))))
     → Absorbing s r′ (pack (flatten (take (16 * (n + 1)) l))) (n + 1)
 absorbing-group m l sized n room s r r′ h e = subst (λ (x : List ℕ). Absorbing s r′ x (n + 1)) (group-more m l sized n room) (absorbing-more s r r′ _ _ n h e)
+
+pub absorbing-two : (m : ℕ) (l : List (List ℕ)) → Vectors m l → (n : ℕ) → 16 * n + 32 ≤ length l → (s r between r′ : Sponge)
+    → Absorbing s r (pack (flatten (take (16 * n) l))) n → between ≡ absorbed r (pack (flatten (take 16 (drop (16 * n) l))))
+    → r′ ≡ absorbed between (pack (flatten (take 16 (drop (16 * (n + 1)) l)))) → Absorbing s r′ (pack (flatten (take (16 * (n + 2)) l))) (n + 2)
+absorbing-two m l sized n room s r between r′ h e e′ =
+    let i : n + 1 + 1 ≡ n + 2 = omega arith in
+    subst (λ (k : ℕ). Absorbing s r′ (pack (flatten (take (16 * k) l))) k) i
+    (absorbing-group m l sized (n + 1) (omega arith) s between r′ (absorbing-group m l sized n (omega arith) s r between h e) e′)
 
 pub absorbing-end : (l : List (List ℕ)) (n : ℕ) (s r : Sponge) → length l ≡ 16 * n → 0 < n → Absorbing s r (pack (flatten (take (16 * n) l))) n → r ≡ absorbed s (pack (flatten l))
 absorbing-end l n s r e h a = absorbing-all s r _ n h a ∙ ap (λ (x : List (List ℕ)). absorbed s (pack (flatten x))) (take-all (16 * n) l (omega arith))

@@ -1,4 +1,5 @@
 pub mod Absorbing
+pub mod OneGroup
 pub mod Passing
 pub mod Sizes
 pub mod Turning

@@ -5,7 +5,7 @@ use Prim.Native.Nat.{ℕ, zero, suc, _+_, _*_, _<_}
 use native.Mathlib.Nat.{add-zero, add-suc}
 use native.Mathlib.Decide.{decLt}
 use native.Mathlib.Omega.{arith}
-use lib.Bits.{bitXor, xor-zero-r}
+use lib.Bits.{bitXor, xor-zero-l, xor-zero-r}
 use lib.ListN.{length, getD, take, drop}
 use lib.Seq.{take-all, drop-drop}
 use Rattle.memory.proofs.Lists.{room}
@@ -17,7 +17,7 @@ use Rattle.marks.specs.Marks.{sumOf, laneSum}
 use Rattle.marks.proofs.Sums.{sum-same, sum-xor}
 use Rattle.parties.proofs.Growing.{total-take-suc-at}
 use Rattle.sponge.specs.declared.Sponge.{Sponge}
-use Rattle.answers.specs.Passes.{Summed, HoldsGroup, Turn, Passed, Zeros}
+use Rattle.answers.specs.Passes.{InLanes, Summed, HoldsGroup, Turn, TwoTurns, Passed, Zeros}
 use Rattle.answers.proofs.Work.{part-same}
 
 -- ---- sums
@@ -87,8 +87,41 @@ passed-more n m at αs ys ws s r sa₀ sy₀ sw₀ sa sy sw old new same p t = r
   kept = kept-more n m at ys ws old new same (p .kept) (t .kept);
 }
 
+pub passed-at : (n n′ m : ℕ) (αs ys ws : List (List ℕ)) (sa sy sw all : List ℕ) → n ≡ n′ → Passed n m αs ys ws sa sy sw all → Passed n′ m αs ys ws sa sy sw all
+passed-at n n′ m αs ys ws sa sy sw all e p = subst (λ (k : ℕ). Passed k m αs ys ws sa sy sw all) e p
+
+pub passed-two : (n m at : ℕ) (αs ys ws : List (List ℕ)) (s r : Sponge) (sa₀ sy₀ sw₀ sa sy sw old new : List ℕ)
+    → take (at + n * (16 * m)) new ≡ take (at + n * (16 * m)) old → Passed n m αs ys ws sa₀ sy₀ sw₀ (drop at old)
+    → TwoTurns n m αs ys ws s sa₀ sy₀ sw₀ sa sy sw (take (16 * m) (drop (at + n * (16 * m)) new)) (take (16 * m) (drop (at + (n + 1) * (16 * m)) new)) r
+    → Passed (n + 2) m αs ys ws sa sy sw (drop at new)
+passed-two n m at αs ys ws s r sa₀ sy₀ sw₀ sa sy sw old new same p t =
+    let e : n + 1 + 1 ≡ n + 2 = omega arith in
+    passed-at (n + 1 + 1) (n + 2) m αs ys ws sa sy sw (drop at new) e
+    (passed-more (n + 1) m at αs ys ws (t .between) r (t .sa₁) (t .sy₁) (t .sw₁) sa sy sw new new refl
+    (passed-more n m at αs ys ws s (t .between) sa₀ sy₀ sw₀ (t .sa₁) (t .sy₁) (t .sw₁) old new same p (t .first)) (t .second))
+
+-- ---- the sums over all parties
+
+pub record Sums (m : ℕ) (αs ys ws : List (List ℕ)) (sa sy sw : List ℕ) : Type 0 where
+  pub alpha : (k : ℕ) → k < m → laneSum (sa ! k) ≡ total αs ! k
+  pub second-form : (k : ℕ) → k < m → laneSum (sy ! k) ≡ total ys ! k
+  pub rest : (k : ℕ) → k < m → laneSum (sw ! k) ≡ total ws ! k
+
 pub total-all : (l : List (List ℕ)) (n k : ℕ) → length l ≡ 16 * n → total (take (16 * n) l) ! k ≡ total l ! k
 total-all l n k e = ap (λ (x : List (List ℕ)). total x ! k) (take-all (16 * n) l (omega arith))
 
-pub passed-at : (n n′ m : ℕ) (αs ys ws : List (List ℕ)) (sa sy sw all : List ℕ) → n ≡ n′ → Passed n m αs ys ws sa sy sw all → Passed n′ m αs ys ws sa sy sw all
-passed-at n n′ m αs ys ws sa sy sw all e p = subst (λ (k : ℕ). Passed k m αs ys ws sa sy sw all) e p
+pub passed-sums : (n m : ℕ) (αs ys ws : List (List ℕ)) (sa sy sw all : List ℕ) → length αs ≡ 16 * n → length ys ≡ 16 * n → length ws ≡ 16 * n → Passed n m αs ys ws sa sy sw all
+    → Sums m αs ys ws sa sy sw
+passed-sums n m αs ys ws sa sy sw all la ly lw p = record {
+  alpha = λ k h. p .alpha k h ∙ total-all αs n k la;
+  second-form = λ k h. p .second-form k h ∙ total-all ys n k ly;
+  rest = λ k h. p .rest k h ∙ total-all ws n k lw;
+}
+
+-- of the only group
+pub sum-one : (l : List (List ℕ)) (words : List ℕ) → length l ≡ 16 → InLanes 0 l words → (k : ℕ) → k < length words → laneSum (words ! k) ≡ total l ! k
+unfolding InLanes laneSum total
+sum-one l words e held k h =
+    sum-same 16 (λ q. lane q (words ! k)) (λ q. getD l (0 + q) [] ! k) (λ q hq. held k q h hq)
+    ∙ sym (total-take-add l 0 16 k ∙ xor-zero-l (sumOf 16 (λ q. getD l (0 + q) [] ! k)))
+    ∙ ap (λ (x : List (List ℕ)). total x ! k) (take-all 16 l (omega arith))

@@ -17,15 +17,17 @@ use Rattle.field.specs.Vectors.{_!_}
 use Rattle.field.proofs.Laws.{mul-lt}
 use Rattle.field.proofs.Packing.{nib-take, nib-drop}
 use Rattle.lanes.specs.Lanes.{lane, WordAt}
-use Rattle.lanes.specs.Parties.{PartiesPacked}
+use Rattle.turning.specs.Parties.{PartiesPacked}
 use Rattle.lanes.proofs.Laws.{lane-lt, lane-xor}
 use Rattle.lanes.proofs.Bytes.{nib-put-before, nib-put-in}
-use Rattle.lanes.proofs.Packed.{packed-front}
+use Rattle.turning.proofs.Packed.{packed-front}
 use Rattle.sponge.specs.declared.Sponge.{Sponge}
 use Rattle.sponge.specs.Steps.{absorbed}
 use Rattle.marks.specs.Marks.{Mark, EachWord, MarkedWord, MultipliedWord, Marked, Multiplied, HoldsWords, sumOf, laneSum}
 use Rattle.marks.proofs.Sums.{sum-same, sum-xor, sum-mul}
+use Rattle.forms.specs.Circuit.{Circuit}
 use Rattle.forms.specs.Room.{circuitIn}
+use Rattle.parties.specs.Parties.{Share}
 use Rattle.group.specs.declared.Rep.{Rep}
 use Rattle.group.specs.Shares.{valuesLength, shareAt, HoldsAnswers}
 use Rattle.answers.specs.Passes.{alphasOf, secondFormsOf, restsOf, Packs, InLanes, Summed, HoldsGroup, Turn, Zeros, vAt, VWords, VsOf, Folded}
@@ -125,24 +127,28 @@ module _ (g m : ℕ) (ys ws : List (List ℕ)) (y z part one two : List ℕ) (ha
 
 -- ---- a turn of the first pass
 
-pub turn-done : (rep : Rep) (g : ℕ) (circuit salt leaves v x y z x′ y′ z′ sa₀ sy₀ sw₀ sa sy sw part part′ : List ℕ) (s r : Sponge)
-    → part′ ≡ part → x′ ≡ x → y′ ≡ y → z′ ≡ z → length x ≡ rep .m → length v ≡ valuesLength rep → g < rep .groups
+pub turn-done : (rep : Rep) (g : ℕ) (circuit salt leaves v x y z sa₀ sy₀ sw₀ sa sy sw part part′ : List ℕ) (s r : Sponge)
+    → part′ ≡ part → length x ≡ rep .m → length v ≡ valuesLength rep → g < rep .groups
     → HoldsAnswers rep g (circuitIn (rep .n) (rep .m) circuit) v (λ q. shareAt rep salt leaves v (16 * g + q)) x y z
-    → ((g : ℕ) (αs ys ws : List (List ℕ)) → Packs (take 16 (drop (16 * g) αs)) x′ → InLanes g αs x′ → InLanes g ys y′ → InLanes g ws z′ → Turn g (length x′) αs ys ws s sa₀ sy₀ sw₀ sa sy sw part r)
+    → ((g : ℕ) (αs ys ws : List (List ℕ)) → Packs (take 16 (drop (16 * g) αs)) x → InLanes g αs x → InLanes g ys y → InLanes g ws z → Turn g (length x) αs ys ws s sa₀ sy₀ sw₀ sa sy sw part r)
     → Turn g (rep .m) (alphasOf rep circuit salt leaves v) (secondFormsOf rep circuit salt leaves v) (restsOf rep circuit salt leaves v) s sa₀ sy₀ sw₀ sa sy sw part′ r
-turn-done rep g circuit salt leaves v x y z x′ y′ z′ sa₀ sy₀ sw₀ sa sy sw part part′ s r ep ex ey ez lx lv inside held step =
+turn-done rep g circuit salt leaves v x y z sa₀ sy₀ sw₀ sa sy sw part part′ s r ep lx lv inside held step =
     let αs = alphasOf rep circuit salt leaves v in
     let ys = secondFormsOf rep circuit salt leaves v in
     let ws = restsOf rep circuit salt leaves v in
     let count = length-alphas rep salt leaves v lv circuit in
     let ia = alphas-in rep salt leaves v lv circuit g x y z inside held in
     subst (λ (l : List ℕ). Turn g (rep .m) αs ys ws s sa₀ sy₀ sw₀ sa sy sw l r) (sym ep)
-    (subst (λ (n : ℕ). Turn g n αs ys ws s sa₀ sy₀ sw₀ sa sy sw part r) (ap length ex ∙ lx)
-    (step g αs ys ws
-    (subst (Packs (take 16 (drop (16 * g) αs))) (sym ex) (packs-group (rep .m) αs (alphas-vectors rep salt leaves v lv circuit) g (omega arith) x lx ia))
-    (subst (InLanes g αs) (sym ex) ia)
-    (subst (InLanes g ys) (sym ey) (second-forms-in rep salt leaves v lv circuit g x y z inside held))
-    (subst (InLanes g ws) (sym ez) (rests-in rep salt leaves v lv circuit g x y z inside held))))
+    (subst (λ (n : ℕ). Turn g n αs ys ws s sa₀ sy₀ sw₀ sa sy sw part r) lx
+    (step g αs ys ws (packs-group (rep .m) αs (alphas-vectors rep salt leaves v lv circuit) g (omega arith) x lx ia) ia
+    (second-forms-in rep salt leaves v lv circuit g x y z inside held) (rests-in rep salt leaves v lv circuit g x y z inside held)))
+
+-- the same of words that are equal
+pub answers-same : (rep : Rep) (g : ℕ) (f : Circuit) (v : List ℕ) (share : ℕ → Share) (x y z x′ y′ z′ : List ℕ) → x′ ≡ x → y′ ≡ y → z′ ≡ z
+    → HoldsAnswers rep g f v share x y z → HoldsAnswers rep g f v share x′ y′ z′
+answers-same rep g f v share x y z x′ y′ z′ ex ey ez h =
+    subst (λ (l : List ℕ). HoldsAnswers rep g f v share l y′ z′) (sym ex)
+    (subst (λ (l : List ℕ). HoldsAnswers rep g f v share x l z′) (sym ey) (subst (λ (l : List ℕ). HoldsAnswers rep g f v share x y l) (sym ez) h))
 
 -- ---- the sums folded
 

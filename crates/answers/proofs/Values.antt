@@ -27,12 +27,11 @@ use Rattle.parties.proofs.Numbered.{numbered-same}
 use Rattle.parties.proofs.Totals.{total-⊕, total-⊙}
 use Rattle.parties.proofs.Sizes.{length-vOf}
 use Rattle.parties.proofs.OneRoutine.{alphas-by-party, vs-by-party}
-use Rattle.marks.specs.Marks.{laneSum}
 use Rattle.group.specs.declared.Rep.{Rep}
 use Rattle.group.specs.Shares.{valuesLength, epsilon, target, alphaGiven, paramsIn, shareAt, restOf}
 use Rattle.answers.specs.Answers.{sharesOf, answered}
 use Rattle.answers.specs.Passes.{alphasOf, secondFormsOf, restsOf, Passed, vAt, VsOf, Folded}
-use Rattle.answers.proofs.Passing.{total-all}
+use Rattle.answers.proofs.Passing.{Sums, passed-sums}
 use Rattle.answers.proofs.Sizes.{equations-in, shares-same, share-c, length-target, entry-of, length-of, length-alphas, length-total-le, entry-le-total}
 
 module _ (f : Circuit) (t ε : List ℕ) (h : ℕ) (α : List ℕ) where
@@ -124,11 +123,11 @@ module _ (rep : Rep) (circuit salt leaves v : List ℕ) (size : length v ≡ val
   unfolding restsOf
   w-entry p h = entry-of rep salt leaves v size (λ i p. cond (eqb i (rep .hidden)) [] (restOf (circuitIn (rep .n) (rep .m) circuit) (target rep v) (epsilon rep v) i p)) p h
 
-  length-ys : length (secondFormsOf rep circuit salt leaves v) ≡ 16 * rep .groups
+  pub length-ys : length (secondFormsOf rep circuit salt leaves v) ≡ 16 * rep .groups
   unfolding secondFormsOf
   length-ys = length-of rep salt leaves v size _
 
-  length-ws : length (restsOf rep circuit salt leaves v) ≡ 16 * rep .groups
+  pub length-ws : length (restsOf rep circuit salt leaves v) ≡ 16 * rep .groups
   unfolding restsOf
   length-ws = length-of rep salt leaves v size _
 
@@ -146,21 +145,23 @@ module _ (rep : Rep) (circuit salt leaves v : List ℕ) (size : length v ≡ val
       ∙ ⊕-at (total ys ⊙ α) (total ws) k
       ∙ ap (λ (x : ℕ). bitXor x (total ws ! k)) (⊙-at (total ys) α k)
 
-  module _ (alpha given sa sy sw all : List ℕ)
-      (passed : Passed (rep .groups) (rep .m) (alphasOf rep circuit salt leaves v) (secondFormsOf rep circuit salt leaves v) (restsOf rep circuit salt leaves v) sa sy sw all)
-      (folded : Folded (rep .m) sa sy sw alpha given) where
-    sum-place : (k : ℕ) → k < rep .m → laneSum (sa ! k) ≡ total (alphasOf rep circuit salt leaves v) ! k
-    sum-place k l = passed .alpha k l ∙ total-all (alphasOf rep circuit salt leaves v) (rep .groups) k (length-alphas rep salt leaves v size circuit)
+  pub sums-passed : (sa sy sw all : List ℕ)
+      → Passed (rep .groups) (rep .m) (alphasOf rep circuit salt leaves v) (secondFormsOf rep circuit salt leaves v) (restsOf rep circuit salt leaves v) sa sy sw all
+      → Sums (rep .m) (alphasOf rep circuit salt leaves v) (secondFormsOf rep circuit salt leaves v) (restsOf rep circuit salt leaves v) sa sy sw
+  sums-passed sa sy sw all passed = passed-sums (rep .groups) (rep .m) _ _ _ sa sy sw all (length-alphas rep salt leaves v size circuit) length-ys length-ws passed
 
+  module _ (alpha given sa sy sw : List ℕ)
+      (sums : Sums (rep .m) (alphasOf rep circuit salt leaves v) (secondFormsOf rep circuit salt leaves v) (restsOf rep circuit salt leaves v) sa sy sw)
+      (folded : Folded (rep .m) sa sy sw alpha given) where
     alpha-place : (k : ℕ) → k < rep .m → alpha ! k ≡ total (alphasOf rep circuit salt leaves v) ! k
-    alpha-place k l = folded .alpha-sum k l ∙ sum-place k l
+    alpha-place k l = folded .alpha-sum k l ∙ sums .alpha k l
 
     given-place : (k : ℕ) → k < rep .m → given ! k ≡ hiddenOf ! k
     given-place k l =
         folded .given-sum k l
         ∙ ap₂ bitXor
-        (ap₂ mul (passed .second-form k l ∙ total-all (secondFormsOf rep circuit salt leaves v) (rep .groups) k length-ys) (sum-place k l))
-        (passed .rest k l ∙ total-all (restsOf rep circuit salt leaves v) (rep .groups) k length-ws)
+        (ap₂ mul (sums .second-form k l) (sums .alpha k l))
+        (sums .rest k l)
         ∙ sym (hidden-at k)
 
     -- what the passes hand on is every v

@@ -7,6 +7,7 @@ use native.Mathlib.Omega.{arith}
 use lib.ListN.{length, take, drop, length-drop}
 use lib.Seq.{take-all, take-take, length-take-le}
 use Rattle.memory.specs.Lists.{put}
+use Rattle.memory.proofs.Lists.{room}
 use Rattle.memory.proofs.Parts.{length-put, lent-put, mid-put, take-put}
 use Rattle.memory.proofs.Sections.{drop-take}
 use Rattle.memory.proofs.Xors.{length-part, length-sized}
@@ -15,7 +16,7 @@ use Rattle.forms.specs.Room.{circuitLength, circuitIn}
 use Rattle.forms.proofs.Room.{affine-size, circuit-three}
 use Rattle.group.specs.declared.Rep.{Rep}
 use Rattle.group.specs.Shares.{shareAt, HoldsAnswers}
-use Rattle.answers.specs.Passes.{circuitOf, leavesOf, roomAt, alphasOf, secondFormsOf, restsOf, HoldsGroup, Turn}
+use Rattle.answers.specs.Passes.{circuitOf, leavesOf, roomAt, alphasOf, secondFormsOf, restsOf, HoldsGroup, Turn, TwoTurns}
 
 -- ---- the places are small
 
@@ -48,6 +49,42 @@ turn-front rep g salt v work work₀ sa₀ sy₀ sw₀ sa sy sw part s r e t =
     let i : 0 + circuitLength (rep .n) (rep .m) ≤ roomAt rep = omega arith in
     subst (λ (f : List ℕ). T f (leavesOf rep work₀)) (part-same work work₀ 0 (circuitLength (rep .n) (rep .m)) (roomAt rep) i e)
     (subst (T (circuitOf rep work)) (part-same work work₀ (circuitLength (rep .n) (rep .m)) (16 * rep .groups * rep .s) (roomAt rep) (omega arith) e) t)
+
+pub two-turns-front : (rep : Rep) (g : ℕ) (salt v work work₀ sa₀ sy₀ sw₀ sa sy sw part next : List ℕ) (s r : Sponge) → take (roomAt rep) work ≡ take (roomAt rep) work₀
+    → TwoTurns g (rep .m) (alphasOf rep (circuitOf rep work) salt (leavesOf rep work) v) (secondFormsOf rep (circuitOf rep work) salt (leavesOf rep work) v)
+    (restsOf rep (circuitOf rep work) salt (leavesOf rep work) v) s sa₀ sy₀ sw₀ sa sy sw part next r
+    → TwoTurns g (rep .m) (alphasOf rep (circuitOf rep work₀) salt (leavesOf rep work₀) v) (secondFormsOf rep (circuitOf rep work₀) salt (leavesOf rep work₀) v)
+    (restsOf rep (circuitOf rep work₀) salt (leavesOf rep work₀) v) s sa₀ sy₀ sw₀ sa sy sw part next r
+two-turns-front rep g salt v work work₀ sa₀ sy₀ sw₀ sa sy sw part next s r e t = record {
+  sa₁ = t .sa₁;
+  sy₁ = t .sy₁;
+  sw₁ = t .sw₁;
+  between = t .between;
+  first = turn-front rep g salt v work work₀ sa₀ sy₀ sw₀ (t .sa₁) (t .sy₁) (t .sw₁) part s (t .between) e (t .first);
+  second = turn-front rep (g + 1) salt v work work₀ (t .sa₁) (t .sy₁) (t .sw₁) sa sy sw next (t .between) r e (t .second);
+}
+
+-- two turns, of which the second keeps what lies in front of its part
+pub two-turns : (g m at : ℕ) (αs ys ws : List (List ℕ)) (sa₀ sy₀ sw₀ sa₁ sy₁ sw₁ sa sy sw old new : List ℕ) (s between r : Sponge)
+    → take (at + (g + 1) * (16 * m)) new ≡ take (at + (g + 1) * (16 * m)) old
+    → Turn g m αs ys ws s sa₀ sy₀ sw₀ sa₁ sy₁ sw₁ (take (16 * m) (drop (at + g * (16 * m)) old)) between
+    → Turn (g + 1) m αs ys ws between sa₁ sy₁ sw₁ sa sy sw (take (16 * m) (drop (at + (g + 1) * (16 * m)) new)) r
+    → TwoTurns g m αs ys ws s sa₀ sy₀ sw₀ sa sy sw (take (16 * m) (drop (at + g * (16 * m)) new)) (take (16 * m) (drop (at + (g + 1) * (16 * m)) new)) r
+two-turns g m at αs ys ws sa₀ sy₀ sw₀ sa₁ sy₁ sw₁ sa sy sw old new s between r same t u = record {
+  sa₁ = sa₁;
+  sy₁ = sy₁;
+  sw₁ = sw₁;
+  between = between;
+  first = (let h = room g (g + 1) (16 * m) (omega arith) in
+      subst (λ (l : List ℕ). Turn g m αs ys ws s sa₀ sy₀ sw₀ sa₁ sy₁ sw₁ l between) (sym (part-same new old (at + g * (16 * m)) (16 * m) (at + (g + 1) * (16 * m)) (omega arith) same)) t);
+  second = u;
+}
+
+pub two-front : (g m at : ℕ) (old between new : List ℕ) → take (at + (g + 1) * (16 * m)) new ≡ take (at + (g + 1) * (16 * m)) between
+    → take (at + g * (16 * m)) between ≡ take (at + g * (16 * m)) old → take (at + g * (16 * m)) new ≡ take (at + g * (16 * m)) old
+two-front g m at old between new e h =
+    let i = room g (g + 1) (16 * m) (omega arith) in
+    part-same new between 0 (at + g * (16 * m)) (at + (g + 1) * (16 * m)) (omega arith) e ∙ h
 
 -- ---- as the code lends them
 

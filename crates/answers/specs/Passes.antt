@@ -75,6 +75,15 @@ pub record Turn (g m : ℕ) (αs ys ws : List (List ℕ)) (s : Sponge) (sa₀ sy
   pub rest : Summed g m ws sw₀ sw
   pub kept : HoldsGroup g m ys ws part
 
+-- what two turns do, of group g and of the next
+pub record TwoTurns (g m : ℕ) (αs ys ws : List (List ℕ)) (s : Sponge) (sa₀ sy₀ sw₀ sa sy sw part next : List ℕ) (r : Sponge) : Type 0 where
+  pub sa₁ : List ℕ
+  pub sy₁ : List ℕ
+  pub sw₁ : List ℕ
+  pub between : Sponge
+  pub first : Turn g m αs ys ws s sa₀ sy₀ sw₀ sa₁ sy₁ sw₁ part between
+  pub second : Turn (g + 1) m αs ys ws between sa₁ sy₁ sw₁ sa sy sw next r
+
 -- what the first pass did for n groups
 pub record Passed (n m : ℕ) (αs ys ws : List (List ℕ)) (sa sy sw room : List ℕ) : Type 0 where
   pub alpha : (k : ℕ) → k < m → laneSum (sa ! k) ≡ total (take (16 * n) αs) ! k

@@ -10,7 +10,7 @@ use Rattle.memory.proofs.Words.{Below}
 use Rattle.lanes.proofs.OneOutcome.{Three, three-fix}
 use Rattle.forms.specs.Room.{circuitLength, circuitIn}
 use Rattle.forms.proofs.Room.{holds-circuit}
-use Rattle.forms.proofs.OneOutcome.{inLane, holds-lanes}
+use Rattle.linear.proofs.OneOutcome.{inLane, holds-lanes}
 use Rattle.bench_forms.specs.Fit.{FormsFit}
 use Rattle.bench_forms.proofs.«bench_linear_forms» as linear-forms
 use Rattle.bench_forms.proofs.«bench_tape_bytes» as tape-bytes

@@ -7,7 +7,8 @@ ghost use Rattle.field.specs.Vectors.{_!_};
 ghost use Rattle.lanes.specs.Lanes.{Holds};
 ghost use Rattle.sponge.specs.Sponge.{shake256};
 ghost use Rattle.forms.specs.Circuit.{Circuit};
-ghost use Rattle.forms.specs.Room.{HoldsCircuit, HoldsForms};
+ghost use Rattle.forms.specs.Room.{HoldsCircuit};
+ghost use Rattle.linear.specs.Forms.{HoldsForms};
 ghost use Rattle.bench_forms.specs.Fit.{FormsFit};
 
 // The linear parts of the three forms at the shares of sixteen parties.
@@ -39,7 +40,7 @@ pub extern "C" fn bench_linear_forms(
     if circuit.len() != forms::circuit_len(n, m) {
         return;
     }
-    forms::linear_forms(circuit, n, m, shares, x, y, z);
+    linear::linear_forms(circuit, n, m, shares, x, y, z);
 }
 
 // The first bytes of the tape of a seed.

@@ -4,4 +4,5 @@ pub mod PackedSums
 pub mod Packing
 pub mod ProductTable
 pub mod Stray
+pub mod Sums
 pub mod Vectors

@@ -1,4 +1,5 @@
 pub mod Field
 pub mod Packing
 pub mod ProductTable
+pub mod Sums
 pub mod Vectors

@@ -1,7 +1,7 @@
 -- The values of affine forms whose table stands in lent bytes: a row times a vector as a sum, one product more, a form's value at each place,
 -- and that the three tables give algorithm 10. Assumes nothing.
 use mathlib.Core.Path.{_≡_, refl, sym, ap, ap₂, _∙_}
-use mathlib.Core.List.{List, [], _∷_, _++_}
+use mathlib.Core.List.{List}
 use Prim.Native.Nat.{ℕ, _+_, _*_, _%_, _<_, max}
 use native.Mathlib.Numerals.{add-one}
 use native.Mathlib.Omega.{arith}
@@ -12,13 +12,13 @@ use Rattle.memory.proofs.Xors.{getD-zeros}
 use Rattle.field.specs.Field.{mul}
 use Rattle.field.specs.Packing.{packedLength, nib, unpack}
 use Rattle.field.specs.ProductTable.{ProductTable}
+use Rattle.field.specs.Sums.{sumOf}
 use Rattle.field.specs.Vectors.{_!_, _⊕_, _⊙_, dot}
 use Rattle.field.proofs.Packing.{nib-drop, length-unpack}
+use Rattle.field.proofs.Sums.{sumOf-suc, sumOf-same, dot-sumOf}
 use Rattle.field.proofs.Vectors.{⊕-at, length-⊕}
-use Rattle.forms.specs.Circuit.{Affine, Circuit, affineLength, affine, evalCircuit}
-use Rattle.forms.specs.Room.{rowsIn, affineIn, circuitIn, HoldsCircuit}
-use Rattle.forms.specs.Rows.{sumOf}
-use Rattle.forms.proofs.Added.{sumOf-suc, sumOf-same, dot-sumOf}
+use Rattle.forms.specs.Circuit.{Circuit, affineLength, affine, evalCircuit}
+use Rattle.forms.specs.Room.{affineIn, circuitIn, HoldsCircuit}
 use Rattle.forms.proofs.Circuit.{Forms, affine-at, length-affine}
 use Rattle.forms.proofs.Room.{constant-in, row-in, length-rows-in}
 

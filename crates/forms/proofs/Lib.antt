@@ -1,7 +1,5 @@
-pub mod Added
 pub mod Circuit
 pub mod Evaluated
 pub mod OneOutcome
 pub mod Room
 pub mod Sampling
-pub mod Shares

@@ -1,7 +1,7 @@
 -- Lent bytes that hold a circuit, challenges or hidden parties: what stands where, and that the bytes of a tape hold what Expand gives.
 -- Assumes nothing.
-use mathlib.Core.Path.{_≡_, refl, sym, ap, ap₂, _∙_, subst}
-use mathlib.Core.List.{List, [], _∷_, _++_}
+use mathlib.Core.Path.{_≡_, refl, sym, ap, ap₂, _∙_}
+use mathlib.Core.List.{List, [], _∷_}
 use Prim.Native.Nat.{ℕ, zero, suc, _+_, _-_, _*_, _/_, _%_, _^_, _≤_, _<_}
 use native.Mathlib.Nat.{suc-mul, one-mul, mod-eq-of-lt, lt-of-le-of-lt}
 use native.Mathlib.Omega.{arith}
@@ -11,7 +11,7 @@ use lib.Pow.{pow-mono}
 use lib.Seq.{take-at, drop-drop, drop-cons, getD-take}
 use Rattle.field.specs.Packing.{packedLength, nib, unpack}
 use Rattle.field.specs.Vectors.{_!_}
-use Rattle.field.proofs.Packing.{half-up, getD-unpack, unpack-same, nib-take, nib-drop, length-unpack}
+use Rattle.field.proofs.Packing.{half-up, getD-unpack, unpack-same, nib-take, nib-drop}
 use Rattle.sponge.specs.Sponge.{little, shake256}
 use Rattle.sponge.specs.Steps.{fresh, absorbed, finished, given, moved}
 use Rattle.sponge.proofs.Laws.{given-append, given-shake256, length-given, length-shake256, shake256-bytes}

@@ -1,4 +1,3 @@
 pub mod Circuit
 pub mod Room
-pub mod Rows
 pub mod Sampling

@@ -1,13 +1,11 @@
--- What lent bytes and words hold: a circuit packed as it is expanded, the challenges and hidden parties of all repetitions, and the values of the forms at the shares of sixteen parties.
+-- What lent bytes hold: a circuit packed as it is expanded, and the challenges and hidden parties of all repetitions.
 -- Assumes nothing.
 use mathlib.Core.List.{List, [], _∷_}
 use mathlib.Core.Path.{_≡_}
 use Prim.Native.Nat.{ℕ, zero, suc, _+_, _-_, _*_, _%_, _^_}
 use lib.ListN.{getD, drop}
 use Rattle.field.specs.Packing.{packedLength, unpack}
-use Rattle.field.specs.Vectors.{_!_}
-use Rattle.lanes.specs.Lanes.{Holds}
-use Rattle.forms.specs.Circuit.{Affine, Circuit, affineLength, linear}
+use Rattle.forms.specs.Circuit.{Affine, Circuit, affineLength}
 
 -- ---- the circuit
 
@@ -45,11 +43,3 @@ challengeIn m bytes e = unpack m (drop ((e - 1) * packedLength m) bytes)
 -- the hidden party of repetition e of 2^l parties, a byte for each repetition
 unfoldable pub hiddenIn : ℕ → List ℕ → ℕ → ℕ
 hiddenIn l bytes e = getD bytes (e - 1) 0 % 2 ^ l + 1
-
--- ---- sixteen parties
-
--- the words x, y and z hold in lane q the forms A1, A2 and A0 without their constants, at the share of party q
-pub record HoldsForms (f : Circuit) (share : ℕ → List ℕ) (x y z : List ℕ) : Type 0 where
-  pub A1 : Holds (λ q k. linear (f .A1) (share q) ! k) x
-  pub A2 : Holds (λ q k. linear (f .A2) (share q) ! k) y
-  pub A0 : Holds (λ q k. linear (f .A0) (share q) ! k) z

@@ -1,5 +1,5 @@
 // The values of affine forms at one vector, an element to a byte, by single products from the table.
-use crate::rows::wide;
+use memory::wide;
 ghost use mathlib.Core.Path.{_≡_};
 ghost use Prim.Native.Nat.{_+_, _*_, _≤_, _<_};
 ghost use lib.Bits.{bitXor};

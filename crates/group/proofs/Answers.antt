@@ -1,10 +1,10 @@
 -- From shares to answers, lane by lane: the forms with the constants of party 1, then α, y and z·ε + c with the hidden party's lane put in or cleared.
 -- Assumes nothing.
 use mathlib.Core.Bool.{Bool, true, false, cond}
-use mathlib.Core.List.{List, []}
-use mathlib.Core.Path.{_≡_, sym, ap, ap₂, subst, _∙_}
-use Prim.Native.Nat.{ℕ, suc, _+_, _-_, _*_, _/_, _%_, _≤_, _<_}
-use native.Mathlib.Nat.{mul-zero, mul-one, zero-add}
+use mathlib.Core.List.{List}
+use mathlib.Core.Path.{_≡_, sym, ap, ap₂, _∙_}
+use Prim.Native.Nat.{ℕ, suc, _+_, _-_, _*_, _≤_, _<_}
+use native.Mathlib.Nat.{mul-zero, mul-one, zero-add, sub-zero}
 use native.Mathlib.Omega.{arith}
 use lib.Bits.{bitXor, xor-zero-l, xor-zero-r}
 use lib.Dec.{eqb}
@@ -19,8 +19,9 @@ use Rattle.lanes.specs.Lanes.{lane, Holds}
 use Rattle.marks.specs.Marks.{Mark, EachWord, MarkedWord, MultipliedWord, ClearedWord, Marked, MarkedBytes, Multiplied, Cleared}
 use Rattle.marks.proofs.Marks.{others-lane}
 use Rattle.forms.specs.Circuit.{Affine, Circuit, affineLength, linear, formsOf}
-use Rattle.forms.specs.Room.{affineIn, circuitIn, HoldsForms}
-use Rattle.forms.proofs.Room.{constant-in, affine-size}
+use Rattle.forms.specs.Room.{affineIn, circuitIn, HoldsCircuit}
+use Rattle.linear.specs.Forms.{HoldsForms}
+use Rattle.forms.proofs.Room.{constant-in}
 use Rattle.parties.specs.Parties.{Share}
 use Rattle.group.specs.declared.Rep.{Rep}
 use Rattle.group.specs.Shares.{epsilon, target, alphaGiven, maskAt, helperAt, HoldsShares, HoldsParts, HoldsAnswers, AlphaWords, RestWords}
@@ -145,10 +146,18 @@ answers-held rep g hide f v words share a b c e x₀ y₀ z₀ x y z hidden ea e
       ∙ rest-at f (suc (16 * g + q)) (rep .hidden) (share q) k (target rep v) (epsilon rep v);
 }
 
--- a part of the words holds the shares of s
-pub held-part : (rep : Rep) (share : ℕ → Share) (words : List ℕ) → rep .n ≤ length words → HoldsShares rep share words
-    → Holds (λ q i. share q .s ! i) (take (rep .n - 0) (drop 0 words))
+-- the first words hold the shares of s
+pub length-front : (words : List ℕ) (n : ℕ) → n ≤ length words → length (take (n - 0) (drop 0 words)) ≡ n
+length-front words n room = length-take-le (n - 0) (drop 0 words) (omega arith) ∙ sub-zero n
+
+pub held-part : (rep : Rep) (share : ℕ → Share) (words : List ℕ) (n : ℕ) → rep .n ≡ n → n ≤ length words → HoldsShares rep share words
+    → Holds (λ q i. share q .s ! i) (take (n - 0) (drop 0 words))
 unfolding Holds
-held-part rep share words room h k q hk hq =
-    let l = length-take-le (rep .n - 0) (drop 0 words) (omega arith) in
-    ap (lane q) (getD-part words 0 (rep .n) k (omega arith) ∙ ap (λ (j : ℕ). getD words j 0) (zero-add k)) ∙ h .s k q (omega arith) hq
+held-part rep share words n e room h k q hk hq =
+    let l = length-front words n room in
+    ap (lane q) (getD-part words 0 n k (omega arith) ∙ ap (λ (j : ℕ). getD words j 0) (zero-add k)) ∙ h .s k q (omega arith) hq
+
+-- bytes hold the circuit that is read from them by equal sizes
+pub circuit-alike : (n m n₂ m₂ : ℕ) (bytes : List ℕ) → n₂ ≡ n → m₂ ≡ m → HoldsCircuit n m (circuitIn n₂ m₂ bytes) bytes
+unfolding HoldsCircuit
+circuit-alike n m n₂ m₂ bytes en em = ap₂ (λ (i j : ℕ). circuitIn i j bytes) (sym en) (sym em)

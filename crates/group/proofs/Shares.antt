@@ -14,22 +14,22 @@ use lib.Seq.{length-take-le}
 use Rattle.memory.specs.Lists.{put}
 use Rattle.memory.proofs.Parts.{length-put, lent-put, length-lent, getD-part, getD-put-before, getD-put-in, getD-put-after}
 use Rattle.field.specs.Packing.{Elements, nib, unpack, packedLength}
-use Rattle.field.specs.Vectors.{_!_, _⊕_}
-use Rattle.field.proofs.Packing.{half-up, getD-unpack, nib-drop, nib-past}
-use Rattle.lanes.specs.Lanes.{lane, Holds, Turned}
-use Rattle.lanes.proofs.Packed.{turned-holds}
+use Rattle.field.specs.Vectors.{_!_}
+use Rattle.field.proofs.Packing.{half-up, getD-unpack, nib-drop}
+use Rattle.lanes.specs.Lanes.{lane, Holds}
+use Rattle.turning.specs.Turns.{Turned}
+use Rattle.turning.proofs.Packed.{turned-holds}
 use Rattle.marks.specs.Marks.{Mark, EachWord, MarkedWord, Marked}
 use Rattle.sets.specs.declared.Params.{Params}
 use Rattle.sponge.specs.Sponge.{shake256}
 use Rattle.sponge.proofs.Laws.{length-shake256}
 use Rattle.hashes.specs.Hashes.{tapeFields}
-use Rattle.forms.specs.Circuit.{Circuit}
 use Rattle.forms.specs.Sampling.{sampleElements}
 use Rattle.forms.proofs.Room.{sample-part}
 use Rattle.parties.specs.Parties.{Share, corrected}
-use Rattle.parties.specs.Repetition.{rawShare}
+use Rattle.parties.specs.Repetition.{tapeLength, rawShare}
 use Rattle.group.specs.declared.Rep.{Rep}
-use Rattle.group.specs.Shares.{Sized, deltaS, deltaC, tapeLength, sampled, HoldsTapes, maskAt, helperAt, HoldsShares, paramsIn, shareAt, HoldsAnswers}
+use Rattle.group.specs.Shares.{Sized, deltaS, deltaC, sampled, tapesOf, HoldsTapes, maskAt, helperAt, HoldsShares, paramsIn, shareAt}
 use Rattle.group.proofs.OneParty.{corrected-s-at, corrected-a-at, corrected-c-at}
 
 -- a part of elements
@@ -68,11 +68,11 @@ module _ (rep : Rep) where
   unfolding helperAt
   helper-place = ap (λ (x : ℕ). x * 2) (ap₂ (λ (x y : ℕ). x + y) (half-up (rep .n)) (half-up (rep .m)))
 
-  pub tape-size : rep .n / 2 + rep .n % 2 + (rep .m / 2 + rep .m % 2) + (rep .m / 2 + rep .m % 2) ≡ tapeLength rep
+  pub tape-size : rep .n / 2 + rep .n % 2 + (rep .m / 2 + rep .m % 2) + (rep .m / 2 + rep .m % 2) ≡ tapeLength (rep .n) (rep .m)
   unfolding tapeLength
   tape-size = ap₂ (λ (x y : ℕ). x + y + y) (half-up (rep .n)) (half-up (rep .m))
 
-  pub tape-room : Sized rep → tapeLength rep ≤ 184
+  pub tape-room : Sized rep → tapeLength (rep .n) (rep .m) ≤ 184
   unfolding tapeLength packedLength
   tape-room z = let a = z .variables in let b = z .equations in omega arith
 
@@ -81,8 +81,8 @@ module _ (rep : Rep) where
   rows-room z = let a = z .variables in let b = z .equations in mul-le-mul b (let h : rep .n / 2 + rep .n % 2 ≤ 60 = omega arith in h)
 
   -- a tape lies in 184 bytes
-  pub tape-fits : (x : List ℕ) → Sized rep → length (shake256 x (tapeLength rep)) ≤ 184
-  tape-fits x z = let a = tape-room z in let b = length-shake256 x (tapeLength rep) in omega arith
+  pub tape-fits : (x : List ℕ) → Sized rep → length (shake256 x (tapeLength (rep .n) (rep .m))) ≤ 184
+  tape-fits x z = let a = tape-room z in let b = length-shake256 x (tapeLength (rep .n) (rep .m)) in omega arith
 
   mask-after : rep .n ≤ maskAt rep
   unfolding maskAt packedLength
@@ -130,7 +130,7 @@ module _ (rep : Rep) where
   three s a c = record { s = s; a = a; c = c }
 
   -- the shares of a party are sampled from the first bytes of its tape
-  pub sampled-raw : (salt : List ℕ) (i : ℕ) (seed : List ℕ) → sampled rep (shake256 (tapeFields salt (rep .e) i seed) (tapeLength rep)) ≡ rawShare (paramsIn rep) salt (rep .e) i seed
+  pub sampled-raw : (salt : List ℕ) (i : ℕ) (seed : List ℕ) → sampled rep (shake256 (tapeFields salt (rep .e) i seed) (tapeLength (rep .n) (rep .m))) ≡ rawShare (paramsIn rep) salt (rep .e) i seed
   unfolding sampled rawShare tapeLength three
   sampled-raw salt i seed =
       let x = tapeFields salt (rep .e) i seed in
@@ -249,13 +249,12 @@ module _ (rep : Rep) where
           ∙ corrected-c-at (deltaS rep v) (deltaC rep v) (suc (16 * g + q)) (share q) k;
     }
 
--- the same of whole parties: their shares
-pub answers-of-shares : (rep : Rep) (g : ℕ) (f : Circuit) (salt leaves v x y z : List ℕ)
-    → HoldsAnswers rep g f v (λ q. corrected (deltaS rep v) (deltaC rep v) (suc (16 * g + q))
-    (sampled rep (shake256 (tapeFields salt (rep .e) (suc (16 * g + q)) (take (rep .s) (drop ((16 * g + q) * rep .s) leaves))) (tapeLength rep)))) x y z
-    → HoldsAnswers rep g f v (λ q. shareAt rep salt leaves v (16 * g + q)) x y z
+-- so the words hold the shares of the parties
+pub shares-of-tapes : (rep : Rep) (g : ℕ) (salt leaves v words : List ℕ)
+    → HoldsShares rep (λ q. corrected (deltaS rep v) (deltaC rep v) (suc (16 * g + q)) (sampled rep (tapesOf rep g salt leaves q))) words
+    → HoldsShares rep (λ q. shareAt rep salt leaves v (16 * g + q)) words
 unfolding shareAt
-answers-of-shares rep g f salt leaves v x y z h =
-    subst (λ (share : ℕ → Share). HoldsAnswers rep g f v share x y z)
+shares-of-tapes rep g salt leaves v words h =
+    subst (λ (share : ℕ → Share). HoldsShares rep share words)
     (fun-ext (λ q. ap (corrected (deltaS rep v) (deltaC rep v) (suc (16 * g + q))) (sampled-raw rep salt (suc (16 * g + q)) (take (rep .s) (drop ((16 * g + q) * rep .s) leaves)))))
     h

@@ -6,7 +6,7 @@ use native.Mathlib.Nat.{zero-add}
 use native.Mathlib.Decide.{decLt, ℕ-discrete}
 use native.Mathlib.Numerals.{add-one}
 use native.Mathlib.Omega.{arith}
-use lib.ListN.{length, getD, set, take, drop, replicate, length-set, length-replicate}
+use lib.ListN.{length, getD, set, take, drop, replicate, length-replicate}
 use lib.Seq.{getD-set-same, getD-set-other}
 use Rattle.memory.specs.Lists.{put}
 use Rattle.memory.proofs.Lists.{room}

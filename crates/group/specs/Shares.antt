@@ -14,9 +14,9 @@ use Rattle.lanes.specs.Lanes.{lane, Holds}
 use Rattle.sponge.specs.Sponge.{shake256}
 use Rattle.hashes.specs.Hashes.{tapeFields}
 use Rattle.sets.specs.declared.Params.{Params}
-use Rattle.forms.specs.Circuit.{Circuit, Affine, formsOf}
+use Rattle.forms.specs.Circuit.{Circuit, formsOf}
 use Rattle.parties.specs.Parties.{Share, corrected, alphaOf, yOf, zOf}
-use Rattle.parties.specs.Repetition.{rawShare}
+use Rattle.parties.specs.Repetition.{tapeLength, rawShare}
 use Rattle.group.specs.declared.Rep.{Rep}
 
 -- the sizes that the routines take
@@ -49,10 +49,6 @@ alphaGiven rep v = take (rep .m) (drop (rep .n + rep .m + rep .m + rep .m) v)
 
 -- ---- tapes and shares
 
--- the bytes of a tape that a party takes
-unfoldable pub tapeLength : Rep → ℕ
-tapeLength rep = packedLength (rep .n) + packedLength (rep .m) + packedLength (rep .m)
-
 -- algorithm 12, lines 9 to 12: the shares that lie in the bytes of a tape
 unfoldable pub sampled : Rep → List ℕ → Share
 sampled rep tape = record {
@@ -63,7 +59,7 @@ sampled rep tape = record {
 
 -- the beginning of the tape of the party in lane q of group g
 abbrev pub tapesOf : Rep → ℕ → List ℕ → List ℕ → ℕ → List ℕ
-tapesOf rep g salt leaves q = shake256 (tapeFields salt (rep .e) (suc (16 * g + q)) (take (rep .s) (drop ((16 * g + q) * rep .s) leaves))) (tapeLength rep)
+tapesOf rep g salt leaves q = shake256 (tapeFields salt (rep .e) (suc (16 * g + q)) (take (rep .s) (drop ((16 * g + q) * rep .s) leaves))) (tapeLength (rep .n) (rep .m))
 
 -- the words hold sixteen tapes: word 16 w + q has the elements from 16 w on of the tape of party q
 unfoldable pub HoldsTapes : (ℕ → List ℕ) → List ℕ → Type 0

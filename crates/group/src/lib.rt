@@ -2,18 +2,17 @@
 // No secret picks a branch or an address; the numbers of the repetition, of the group and of the hidden party are public.
 ghost use mathlib.Core.Path.{_≡_};
 ghost use mathlib.Core.List.{List};
-ghost use Prim.Native.Nat.{ℕ, suc, _+_, _-_, _*_, _≤_, _<_};
+ghost use Prim.Native.Nat.{ℕ, suc, _+_, _*_, _≤_, _<_};
 ghost use lib.ListN.{length};
 ghost use Rattle.memory.specs.Lists.{put};
 ghost use Rattle.field.specs.Packing.{Elements};
-ghost use Rattle.field.specs.Vectors.{_!_};
 ghost use Rattle.sponge.specs.Sponge.{shake256};
 ghost use Rattle.hashes.specs.Hashes.{tapeFields};
-ghost use Rattle.lanes.specs.Lanes.{lane, Holds};
-ghost use Rattle.forms.specs.Circuit.{Circuit};
 ghost use Rattle.forms.specs.Room.{circuitLength, circuitIn};
-ghost use Rattle.parties.specs.Parties.{Share, corrected, alphaOf};
-ghost use Rattle.group.specs.Shares.{Sized, valuesLength, deltaS, deltaC, epsilon, target, alphaGiven, tapeLength, sampled, tapesOf, HoldsTapes, TapeStored, maskAt, helperAt, HoldsShares, shareAt, HoldsParts, HoldsAnswers, AlphaWords, RestWords};
+ghost use Rattle.linear.specs.Forms.{HoldsForms};
+ghost use Rattle.parties.specs.Parties.{Share, corrected};
+ghost use Rattle.parties.specs.Repetition.{tapeLength};
+ghost use Rattle.group.specs.Shares.{Sized, valuesLength, deltaS, deltaC, tapesOf, HoldsTapes, TapeStored, HoldsShares, shareAt, HoldsParts, HoldsAnswers, AlphaWords, RestWords};
 
 // A repetition: S bytes to a seed, n variables, m equations, its number e, the hidden party or 0, and how many groups of sixteen parties it has.
 pub struct Rep {
@@ -45,9 +44,67 @@ pub fn group(
     requires { ⌜ (Sized rep) × (g < rep .groups) × (length (now salt) ≤ 64) × (length (now leaves) ≡ 16 * rep .groups * rep .s) × (length (now circuit) ≡ circuitLength (rep .n) (rep .m)) × (length (now values) ≡ valuesLength rep) × (Elements (now values)) × (length (now x) ≡ rep .m) × (length (now y) ≡ rep .m) × (length (now z) ≡ rep .m) ⌝ }
     ensures { λ r. ⌜ HoldsAnswers rep g (circuitIn (rep .n) (rep .m) (now (circuit .entry))) (now (values .entry)) (λ q. shareAt rep (now (salt .entry)) (now (leaves .entry)) (now (values .entry)) (16 * g + q)) (now (x .exit)) (now (y .exit)) (now (z .exit)) ⌝ }
 {
+    let n = rep.n;
+    let mut words = [0u64; TAPES];
+    sixteen_shares(rep, g, salt, leaves, values, &mut words);
+    linear::linear_forms(circuit, n, rep.m, &words[0..n], x, y, z);
+    after_forms(rep, g, circuit, values, &words, x, y, z);
+}
+
+// The same of two groups together: group g of `rep`, by `leaves` and `values`, to x, y and z, and group h of `other`, by `others` and `more`, to x2, y2 and z2.
+pub fn two_groups(
+    rep: Rep,
+    g: usize,
+    leaves: &[u8],
+    values: &[u8],
+    other: Rep,
+    h: usize,
+    others: &[u8],
+    more: &[u8],
+    salt: &[u8],
+    circuit: &[u8],
+    x: &mut [u64],
+    y: &mut [u64],
+    z: &mut [u64],
+    x2: &mut [u64],
+    y2: &mut [u64],
+    z2: &mut [u64],
+)
+    requires { ⌜ (Sized rep) × (Sized other) × (other .n ≡ rep .n) × (other .m ≡ rep .m) × (g < rep .groups) × (h < other .groups) × (length (now salt) ≤ 64) × (length (now circuit) ≡ circuitLength (rep .n) (rep .m)) × (length (now leaves) ≡ 16 * rep .groups * rep .s) × (length (now others) ≡ 16 * other .groups * other .s) × (length (now values) ≡ valuesLength rep) × (Elements (now values)) × (length (now more) ≡ valuesLength other) × (Elements (now more)) × (length (now x) ≡ rep .m) × (length (now y) ≡ rep .m) × (length (now z) ≡ rep .m) × (length (now x2) ≡ rep .m) × (length (now y2) ≡ rep .m) × (length (now z2) ≡ rep .m) ⌝ }
+    ensures first { λ r. ⌜ HoldsAnswers rep g (circuitIn (rep .n) (rep .m) (now (circuit .entry))) (now (values .entry)) (λ q. shareAt rep (now (salt .entry)) (now (leaves .entry)) (now (values .entry)) (16 * g + q)) (now (x .exit)) (now (y .exit)) (now (z .exit)) ⌝ }
+    ensures second { λ r. ⌜ HoldsAnswers other h (circuitIn (other .n) (other .m) (now (circuit .entry))) (now (more .entry)) (λ q. shareAt other (now (salt .entry)) (now (others .entry)) (now (more .entry)) (16 * h + q)) (now (x2 .exit)) (now (y2 .exit)) (now (z2 .exit)) ⌝ }
+{
+    let n = rep.n;
+    let mut words = [0u64; TAPES];
+    let mut second = [0u64; TAPES];
+    sixteen_shares(rep, g, salt, leaves, values, &mut words);
+    sixteen_shares(other, h, salt, others, more, &mut second);
+    linear::linear_two(
+        circuit,
+        n,
+        rep.m,
+        &words[0..n],
+        &second[0..n],
+        x,
+        y,
+        z,
+        x2,
+        y2,
+        z2,
+    );
+    after_forms(rep, g, circuit, values, &words, x, y, z);
+    after_forms(other, h, circuit, more, &second, x2, y2, z2);
+}
+
+// The shares of the sixteen parties of group g with the corrections, in lanes.
+fn sixteen_shares(rep: Rep, g: usize, salt: &[u8], leaves: &[u8], values: &[u8], words: &mut [u64])
+    requires { ⌜ (Sized rep) × (g < rep .groups) × (length (now salt) ≤ 64) × (length (now leaves) ≡ 16 * rep .groups * rep .s) × (length (now values) ≡ valuesLength rep) × (Elements (now values)) × (length (now words) ≡ 368) ⌝ }
+    ensures { λ r. ⌜ HoldsShares rep (λ q. shareAt rep (now (salt .entry)) (now (leaves .entry)) (now (values .entry)) (16 * g + q)) (now (words .exit)) ⌝ }
+{
     let mut tapes = [0u64; TAPES];
     sixteen_tapes(rep, g, salt, leaves, &mut tapes);
-    of_tapes(rep, g, circuit, values, &tapes, x, y, z);
+    turning::to_lanes(&tapes, words);
+    correct(rep, g, values, words);
 }
 
 // The tapes of the sixteen parties of group g, word by word across the parties.
@@ -69,7 +126,7 @@ fn sixteen_tapes(rep: Rep, g: usize, salt: &[u8], leaves: &[u8], tapes: &mut [u6
 // The tape of party i, as lane q.
 fn one_tape(rep: Rep, salt: &[u8], i: usize, seed: &[u8], q: usize, tapes: &mut [u64])
     requires { ⌜ (Sized rep) × (q < 16) × (length (now salt) ≤ 64) × (length (now seed) ≤ 32) × (length (now tapes) ≡ 368) ⌝ }
-    ensures { λ r. ⌜ TapeStored q (shake256 (tapeFields (now (salt .entry)) (rep .e) i (now (seed .entry))) (tapeLength rep)) (now (tapes .entry)) (now (tapes .exit)) ⌝ }
+    ensures { λ r. ⌜ TapeStored q (shake256 (tapeFields (now (salt .entry)) (rep .e) i (now (seed .entry))) (tapeLength (rep .n) (rep .m))) (now (tapes .entry)) (now (tapes .exit)) ⌝ }
 {
     let mut bytes = [0u8; TAPE];
     fill(rep, salt, i, seed, &mut bytes);
@@ -79,7 +136,7 @@ fn one_tape(rep: Rep, salt: &[u8], i: usize, seed: &[u8], q: usize, tapes: &mut 
 // The tape of party i over the start of `bytes`.
 fn fill(rep: Rep, salt: &[u8], i: usize, seed: &[u8], bytes: &mut [u8])
     requires { ⌜ (Sized rep) × (length (now salt) ≤ 64) × (length (now seed) ≤ 32) × (length (now bytes) ≡ 184) ⌝ }
-    ensures { λ r. ⌜ now (bytes .exit) ≡ put (now (bytes .entry)) 0 (shake256 (tapeFields (now (salt .entry)) (rep .e) i (now (seed .entry))) (tapeLength rep)) ⌝ }
+    ensures { λ r. ⌜ now (bytes .exit) ≡ put (now (bytes .entry)) 0 (shake256 (tapeFields (now (salt .entry)) (rep .e) i (now (seed .entry))) (tapeLength (rep .n) (rep .m))) ⌝ }
 {
     let n = rep.n / 2 + rep.n % 2 + (rep.m / 2 + rep.m % 2) + (rep.m / 2 + rep.m % 2);
     hashes::tape(salt, rep.e, i, seed, &mut bytes[0..n]);
@@ -97,26 +154,6 @@ fn scatter(bytes: &[u8], q: usize, tapes: &mut [u64])
     }
 }
 
-// α, y and z·ε + c of sixteen parties from their tapes.
-fn of_tapes(
-    rep: Rep,
-    g: usize,
-    circuit: &[u8],
-    values: &[u8],
-    tapes: &[u64],
-    x: &mut [u64],
-    y: &mut [u64],
-    z: &mut [u64],
-)
-    requires { ⌜ (Sized rep) × (g < 256) × (length (now circuit) ≡ circuitLength (rep .n) (rep .m)) × (length (now values) ≡ valuesLength rep) × (Elements (now values)) × (length (now tapes) ≡ 368) × (length (now x) ≡ rep .m) × (length (now y) ≡ rep .m) × (length (now z) ≡ rep .m) ⌝ }
-    ensures { λ r. ⌜ ((tape : ℕ → List ℕ) → HoldsTapes tape (now (tapes .entry)) → HoldsAnswers rep g (circuitIn (rep .n) (rep .m) (now (circuit .entry))) (now (values .entry)) (λ q. corrected (deltaS rep (now (values .entry))) (deltaC rep (now (values .entry))) (suc (16 * g + q)) (sampled rep (tape q))) (now (x .exit)) (now (y .exit)) (now (z .exit))) ⌝ }
-{
-    let mut words = [0u64; TAPES];
-    lanes::to_lanes(tapes, &mut words);
-    correct(rep, g, values, &mut words);
-    mixed(rep, g, circuit, values, &words, x, y, z);
-}
-
 // Party 1 alone adds the corrections.
 fn correct(rep: Rep, g: usize, values: &[u8], words: &mut [u64])
     requires { ⌜ (Sized rep) × (g < 256) × (length (now values) ≡ valuesLength rep) × (Elements (now values)) × (length (now words) ≡ 368) ⌝ }
@@ -131,8 +168,8 @@ fn correct(rep: Rep, g: usize, values: &[u8], words: &mut [u64])
     marks::add_marked(&mut words[c..e], &values[n..d], first);
 }
 
-// α, y and z·ε + c of sixteen parties from their shares.
-fn mixed(
+// α, y and z·ε + c of sixteen parties from their shares, once x, y and z hold the forms without constants.
+fn after_forms(
     rep: Rep,
     g: usize,
     circuit: &[u8],
@@ -143,37 +180,28 @@ fn mixed(
     z: &mut [u64],
 )
     requires { ⌜ (Sized rep) × (g < 256) × (length (now circuit) ≡ circuitLength (rep .n) (rep .m)) × (length (now values) ≡ valuesLength rep) × (Elements (now values)) × (length (now words) ≡ 368) × (length (now x) ≡ rep .m) × (length (now y) ≡ rep .m) × (length (now z) ≡ rep .m) ⌝ }
-    ensures { λ r. ⌜ ((share : ℕ → Share) → HoldsShares rep share (now (words .entry)) → HoldsAnswers rep g (circuitIn (rep .n) (rep .m) (now (circuit .entry))) (now (values .entry)) share (now (x .exit)) (now (y .exit)) (now (z .exit))) ⌝ }
+    ensures { λ r. ⌜ ((share : ℕ → Share) → HoldsShares rep share (now (words .entry)) → HoldsForms (circuitIn (rep .n) (rep .m) (now (circuit .entry))) (λ q. share q .s) (now (x .entry)) (now (y .entry)) (now (z .entry)) → HoldsAnswers rep g (circuitIn (rep .n) (rep .m) (now (circuit .entry))) (now (values .entry)) share (now (x .exit)) (now (y .exit)) (now (z .exit))) ⌝ }
 {
     let n = rep.n;
     let a = (n / 2 + n % 2) * 2;
     let b = a + rep.m;
     let c = (n / 2 + n % 2 + (rep.m / 2 + rep.m % 2)) * 2;
     let e = c + rep.m;
-    forms_at(rep, g, circuit, &words[0..n], x, y, z);
+    constants(rep, g, circuit, x, y, z);
     alpha_words(rep, g, values, &words[a..b], x);
     marks::clear_marked(y, marks::mark(g, rep.hidden));
     rest_words(rep, g, values, &words[c..e], z);
 }
 
-// The forms A1, A2 and A0 of sixteen parties; party 1 alone keeps the constants.
-fn forms_at(
-    rep: Rep,
-    g: usize,
-    circuit: &[u8],
-    shares: &[u64],
-    x: &mut [u64],
-    y: &mut [u64],
-    z: &mut [u64],
-)
-    requires { ⌜ (Sized rep) × (g < 256) × (length (now circuit) ≡ circuitLength (rep .n) (rep .m)) × (length (now shares) ≡ rep .n) × (length (now x) ≡ rep .m) × (length (now y) ≡ rep .m) × (length (now z) ≡ rep .m) ⌝ }
-    ensures { λ r. ⌜ ((share : ℕ → List ℕ) → Holds (λ q i. share q ! i) (now (shares .entry)) → HoldsParts g (circuitIn (rep .n) (rep .m) (now (circuit .entry))) share (now (x .exit)) (now (y .exit)) (now (z .exit))) ⌝ }
+// The constants of the forms A1, A2 and A0, added at party 1 alone.
+fn constants(rep: Rep, g: usize, circuit: &[u8], x: &mut [u64], y: &mut [u64], z: &mut [u64])
+    requires { ⌜ (Sized rep) × (g < 256) × (length (now circuit) ≡ circuitLength (rep .n) (rep .m)) × (length (now x) ≡ rep .m) × (length (now y) ≡ rep .m) × (length (now z) ≡ rep .m) ⌝ }
+    ensures { λ r. ⌜ ((share : ℕ → List ℕ) → HoldsForms (circuitIn (rep .n) (rep .m) (now (circuit .entry))) share (now (x .entry)) (now (y .entry)) (now (z .entry)) → HoldsParts g (circuitIn (rep .n) (rep .m) (now (circuit .entry))) share (now (x .exit)) (now (y .exit)) (now (z .exit))) ⌝ }
 {
     let n = rep.n;
     let m = rep.m;
     let size = m / 2 + m % 2 + m * (n / 2 + n % 2);
     let first = marks::mark(g, 1);
-    forms::linear_forms(circuit, n, m, shares, x, y, z);
     marks::add_constants(x, circuit, 0, first);
     marks::add_constants(y, circuit, size * 2, first);
     marks::add_constants(z, circuit, (size + size) * 2, first);

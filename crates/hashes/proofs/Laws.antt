@@ -2,11 +2,12 @@
 -- Assumes nothing.
 use mathlib.Core.Path.{_≡_, refl, ap, _∙_}
 use mathlib.Core.List.{List, [], _∷_, _++_, append-assoc}
-use Prim.Native.Nat.{ℕ, _+_, _*_, _/_, _%_, _<_}
+use Prim.Native.Nat.{ℕ, _+_, _-_, _*_, _/_, _%_, _<_}
 use native.Mathlib.Omega.{arith}
-use lib.ListN.{length, take, drop, set, length-append}
-use lib.Seq.{take-at}
+use lib.ListN.{length, take, drop, set, replicate, length-append}
+use lib.Seq.{take-at, drop-at}
 use Rattle.memory.specs.Lists.{put}
+use Rattle.memory.proofs.Lists.{drop-replicate}
 use Rattle.memory.proofs.Parts.{set-put, put-section}
 use Rattle.sponge.specs.declared.Sponge.{Sponge}
 use Rattle.sponge.specs.Steps.{fresh, absorbed, finished, given}
@@ -59,20 +60,24 @@ laid block byte salt numbers seed h =
     ∙ put-section (byte ∷ (salt ++ numbers)) block (1 + length salt + length numbers) seed (simp length-append (omega arith))
     ∙ ap (λ (x : List ℕ). (byte ∷ x) ++ drop (1 + length salt + length numbers + length seed) block) (append-assoc salt numbers seed)
 
-take-laid : (block : List ℕ) (byte : ℕ) (salt numbers seed : List ℕ) → 0 < length block →
-    take (1 + length salt + length numbers + length seed) (put (put (put (set block 0 byte) 1 salt) (1 + length salt) numbers) (1 + length salt + length numbers) seed)
-    ≡ byte ∷ (salt ++ (numbers ++ seed))
-take-laid block byte salt numbers seed h =
-    ap (take (1 + length salt + length numbers + length seed)) (laid block byte salt numbers seed h)
-    ∙ take-at (byte ∷ (salt ++ (numbers ++ seed))) (drop (1 + length salt + length numbers + length seed) block) (1 + length salt + length numbers + length seed) (simp length-append (omega arith))
-
 -- the same in turns, as the code has it
-pub take-assembled : (block : List ℕ) (byte : ℕ) (salt numbers seed x y z : List ℕ) (a b n : ℕ) → 0 < length block →
+pub assembled : (block : List ℕ) (byte : ℕ) (salt numbers seed x y z : List ℕ) (a b n : ℕ) → 0 < length block →
     a ≡ 1 + length salt → x ≡ put (set block 0 byte) 1 salt → b ≡ a + length numbers → y ≡ put x a numbers → n ≡ b + length seed → z ≡ put y b seed →
-    take n z ≡ byte ∷ (salt ++ (numbers ++ seed))
-take-assembled block byte salt numbers seed x y z a b n h ea ex eb ey en ez =
-    let together : take n z ≡ take (1 + length salt + length numbers + length seed) (put (put (put (set block 0 byte) 1 salt) (1 + length salt) numbers) (1 + length salt + length numbers) seed) = cc in
-    together ∙ take-laid block byte salt numbers seed h
+    z ≡ (byte ∷ (salt ++ (numbers ++ seed))) ++ drop n block
+assembled block byte salt numbers seed x y z a b n h ea ex eb ey en ez =
+    let together : z ≡ put (put (put (set block 0 byte) 1 salt) (1 + length salt) numbers) (1 + length salt + length numbers) seed = cc in
+    together ∙ laid block byte salt numbers seed h ∙ ap (λ (k : ℕ). (byte ∷ (salt ++ (numbers ++ seed))) ++ drop k block) (let g : 1 + length salt + length numbers + length seed ≡ n = omega arith in g)
+
+-- fields over the start of zeros: behind them the zeros are left, and before that the fields stand
+module _ (byte : ℕ) (salt numbers seed block : List ℕ) (k n : ℕ) (long : n ≡ 1 + length salt + length numbers + length seed) (e : block ≡ (byte ∷ (salt ++ (numbers ++ seed))) ++ drop n (replicate k 0)) where
+  length-fields : length (byte ∷ (salt ++ (numbers ++ seed))) ≡ n
+  length-fields = simp length-append (omega arith)
+
+  pub behind-fields : drop n block ≡ replicate (k - n) 0
+  behind-fields = ap (drop n) e ∙ drop-at (byte ∷ (salt ++ (numbers ++ seed))) (drop n (replicate k 0)) n length-fields ∙ drop-replicate n k 0
+
+  pub only-fields : take n block ≡ byte ∷ (salt ++ (numbers ++ seed))
+  only-fields = ap (take n) e ∙ take-at (byte ∷ (salt ++ (numbers ++ seed))) (drop n (replicate k 0)) n length-fields
 
 -- a byte and then a list are absorbed as one
 pub absorbed-after-byte : (byte : ℕ) (salt : List ℕ) (s t u : Sponge) → s ≡ fresh → t ≡ absorbed s (byte ∷ []) → u ≡ absorbed t salt → u ≡ absorbed fresh (byte ∷ salt)

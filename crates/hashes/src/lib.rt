@@ -3,8 +3,8 @@
 use sponge::Sponge;
 ghost use mathlib.Core.Path.{_≡_};
 ghost use mathlib.Core.List.{_∷_, _++_};
-ghost use Prim.Native.Nat.{_+_, _/_, _%_, _≤_, _<_};
-ghost use lib.ListN.{length, take};
+ghost use Prim.Native.Nat.{_+_, _/_, _%_, _≤_};
+ghost use lib.ListN.{length, drop};
 ghost use Rattle.memory.specs.Lists.{put};
 ghost use Rattle.sponge.specs.Sponge.{shake256};
 ghost use Rattle.sponge.specs.Steps.{fresh, absorbed};
@@ -75,13 +75,13 @@ fn fields(byte: u8, salt: &[u8], numbers: &[u8], seed: &[u8], out: &mut [u8])
 {
     let mut block = [0u8; BLOCK];
     let n = assemble(byte, salt, numbers, seed, &mut block);
-    sponge::short(&block[0..n], out);
+    sponge::short(&block, n, out);
 }
 
-// Writes the fields one after another to the start of `block`, and gives how many bytes they are.
+// Writes the fields one after another over the start of `block`, and gives how many bytes they are.
 fn assemble(byte: u8, salt: &[u8], numbers: &[u8], seed: &[u8], block: &mut [u8]) -> usize
     requires { ⌜ 1 + length (now salt) + length (now numbers) + length (now seed) ≤ length (now block) ⌝ }
-    ensures { λ r. ⌜ (r ≡ 1 + length (now (salt .entry)) + length (now (numbers .entry)) + length (now (seed .entry))) × (take r (now (block .exit)) ≡ byte ∷ (now (salt .entry) ++ (now (numbers .entry) ++ now (seed .entry)))) ⌝ }
+    ensures { λ r. ⌜ (r ≡ 1 + length (now (salt .entry)) + length (now (numbers .entry)) + length (now (seed .entry))) × (now (block .exit) ≡ (byte ∷ (now (salt .entry) ++ (now (numbers .entry) ++ now (seed .entry)))) ++ drop r (now (block .entry))) ⌝ }
 {
     block[0] = byte;
     let a = section(salt, 1, block);

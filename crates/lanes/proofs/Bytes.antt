@@ -2,18 +2,19 @@
 -- Assumes nothing.
 use mathlib.Core.Path.{_≡_, sym, ap, _∙_}
 use mathlib.Core.List.{List, [], _∷_}
-use Prim.Native.Nat.{ℕ, zero, suc, _+_, _*_, _/_, _%_, _^_, _≤_, _<_}
+use Prim.Native.Nat.{ℕ, zero, suc, _+_, _-_, _*_, _/_, _%_, _^_, _≤_, _<_}
 use native.Mathlib.Nat.{zero-div, add-zero, div-one, mod-lt}
 use native.Mathlib.Numerals.{add-one, add-two, add-three, add-four, add-five, add-six, add-seven}
 use native.Mathlib.Omega.{arith}
 use lib.Bits.{bitOr, or-shifted-r}
 use lib.Dec.{lit<}
-use lib.ListN.{length, getD, set}
+use lib.ListN.{length, getD, drop, set}
 use lib.Pow.{shr-shr, shl-exact}
+use lib.Seq.{drop-drop}
 use Rattle.memory.specs.Lists.{table, put}
 use Rattle.memory.proofs.Bits.{one-bit}
 use Rattle.memory.proofs.Lists.{getD-table, length-table}
-use Rattle.memory.proofs.Parts.{getD-put-before, getD-put-in, getD-put-after}
+use Rattle.memory.proofs.Parts.{drop-put, getD-put-before, getD-put-in, getD-put-after}
 use Rattle.memory.proofs.Stores.{stores-put}
 use Rattle.field.specs.Packing.{nib}
 use Rattle.lanes.specs.Lanes.{lane, wordBytes, WordAt}
@@ -140,3 +141,14 @@ pub nib-put-word : (old : List ℕ) (at w i : ℕ) → at + 8 ≤ length old →
 nib-put-word old at w i fits h =
     let n = length-wordBytes w in
     nib-put-in old at (wordBytes w) (omega arith) i (omega arith) ∙ nib-wordBytes w i h
+
+-- what lies behind the words is kept
+pub put-behind : (out : List ℕ) (at n w : ℕ) → at + 8 ≤ n → at + 8 ≤ length out → drop n (put out at (wordBytes w)) ≡ drop n out
+put-behind out at n w h fits =
+    let c = length-wordBytes w in
+    let e : n ≡ at + length (wordBytes w) + (n - (at + length (wordBytes w))) = omega arith in
+    let rest = n - (at + length (wordBytes w)) in
+    ap (λ (k : ℕ). drop k (put out at (wordBytes w))) e
+    ∙ sym (drop-drop rest (at + length (wordBytes w)) (put out at (wordBytes w)))
+    ∙ ap (drop rest) (drop-put out at (wordBytes w) (omega arith))
+    ∙ drop-drop rest (at + length (wordBytes w)) out ∙ ap (λ (k : ℕ). drop k out) (sym e)

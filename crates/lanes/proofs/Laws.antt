@@ -1,14 +1,17 @@
--- The laws of lanes that proofs about words cite: a lane of a sum, a mask, a shift and a multiple, and that a word is fixed by its sixteen lanes.
+-- The laws of lanes that proofs about words cite: a lane of a sum, a mask, a shift and a multiple, and that a word is fixed by its sixteen lanes, and a list of words by theirs.
 -- Assumes nothing.
 use mathlib.Core.Path.{_≡_, sym, ap, _∙_}
+use mathlib.Core.List.{List}
 use Prim.Native.Nat.{ℕ, _+_, _-_, _*_, _/_, _%_, _^_, _≤_, _<_}
 use native.Mathlib.Nat.{mod-lt, mod-eq-of-lt, zero-div, div-eq-of-lt, lt-of-le-of-lt, lt-of-lt-of-le, mul-le-mul-right}
 use native.Mathlib.Omega.{arith}
 use lib.Bits.{bitXor, bitAnd, and-le-r}
 use lib.Dec.{lit<}
+use lib.ListN.{length, getD}
 use lib.Pow.{pow-mono, shr-shr}
+use lib.Seq.{ext-getD}
 use Rattle.memory.proofs.Digits.{digit-xor, digit-and, digit-mod, shl-div, shl-low, scaled-mod, masked-div, digits-fix}
-use Rattle.lanes.specs.Lanes.{lane}
+use Rattle.lanes.specs.Lanes.{lane, Holds}
 
 pub lane-lt : (k w : ℕ) → lane k w < 16
 unfolding lane
@@ -74,3 +77,10 @@ lane-high k w =
 pub lanes-fix : (v w : ℕ) → v < 2 ^ 64 → w < 2 ^ 64 → ((k : ℕ) → k < 16 → lane k v ≡ lane k w) → v ≡ w
 unfolding lane
 lanes-fix v w hv hw h = sym (mod-eq-of-lt hv) ∙ digits-fix 4 v w 16 h ∙ mod-eq-of-lt hw
+
+-- words are fixed by their lanes
+pub words-fix : (f : ℕ → ℕ → ℕ) (x y : List ℕ) → length x ≡ length y → ((i : ℕ) → getD x i 0 < 2 ^ 64) → ((i : ℕ) → getD y i 0 < 2 ^ 64)
+    → Holds f x → Holds f y → x ≡ y
+unfolding Holds
+words-fix f x y e hx hy p q =
+    ext-getD 0 x y e (λ i l. lanes-fix (getD x i 0) (getD y i 0) (hx i) (hy i) (λ k h. p i k l h ∙ sym (q i k (omega arith) h)))

@@ -1,9 +1,4 @@
-pub mod Back
 pub mod Bytes
-pub mod Groups
 pub mod Laws
 pub mod OneOutcome
-pub mod Packed
 pub mod Products
-pub mod Stages
-pub mod Windows

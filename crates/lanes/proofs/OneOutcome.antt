@@ -2,8 +2,7 @@
 -- entries of a lent part are below 2 ^ 64 or 256 is what their type, u64 or u8, says of them. Assumes nothing.
 use mathlib.Core.Path.{_≡_, refl, sym, ap, ap₂, _∙_, subst}
 use mathlib.Core.List.{List}
-use Prim.Native.Nat.{ℕ, _+_, _-_, _*_, _/_, _%_, _<_}
-use native.Mathlib.Nat.{mod-lt, div-add-mod, div-lt-iff-lt-mul}
+use Prim.Native.Nat.{ℕ, _+_, _-_, _*_, _<_}
 use native.Mathlib.Decide.{decLt}
 use native.Mathlib.Omega.{arith}
 use lib.ListN.{length, getD, drop}
@@ -11,17 +10,13 @@ use Rattle.memory.specs.Outcome.{OneOutcome}
 use Rattle.memory.proofs.Words.{Below}
 use Rattle.field.specs.Packing.{Bytes, nib}
 use Rattle.field.proofs.Packing.{nib-drop, bytes-by-halves}
-use Rattle.lanes.specs.Lanes.{lane, Holds, Times, Multiples, Transposed, WordAt}
-use Rattle.lanes.specs.Parties.{PartiesPacked}
-use Rattle.lanes.proofs.Laws.{lanes-fix}
-use Rattle.lanes.proofs.Packed.{words-fix, turned-holds}
+use Rattle.lanes.specs.Lanes.{lane, Holds, Times, Multiples, WordAt}
+use Rattle.lanes.proofs.Laws.{lanes-fix, words-fix}
 use Rattle.lanes.proofs.times as times
 use Rattle.lanes.proofs.multiples as multiples
 use Rattle.lanes.proofs.«word_at» as word-at
 use Rattle.lanes.proofs.«put_word» as put-word
-use Rattle.lanes.proofs.«to_lanes» as to-lanes
-use Rattle.lanes.proofs.transpose as transpose
-use Rattle.lanes.proofs.«pack_parties» as pack-parties
+use Rattle.lanes.proofs.«copy_words» as copy-words
 
 -- words that agree in every lane are one list
 pub words-by-lanes : (x y : List ℕ) → length x ≡ length y → Below 64 x → Below 64 y
@@ -85,40 +80,5 @@ word-at-one-outcome κs a good asked o q x y =
 pub put-word-one-outcome : OneOutcome put-word.Kinds.ps put-word.Kinds.r put-word.Reads.Asked put-word.Reads.Learnt
 put-word-one-outcome κs a good asked o q x y = ap (λ (l : List ℕ). (tt, (l, (tt, (tt, tt))))) (x .promised ∙ sym (y .promised))
 
-pub to-lanes-one-outcome :
-    OneOutcome to-lanes.Kinds.ps to-lanes.Kinds.r to-lanes.Reads.Asked (λ κs a r e. to-lanes.Reads.Learnt κs a r e × Below 64 (e .1 .0 .now))
-to-lanes-one-outcome κs a good asked o q x y =
-    let g = x .kept .1 .0 in
-    let h = y .kept .1 .0 in
-    let t = a .0 .now in
-    ap (λ (l : List ℕ). (tt, (tt, (l, tt))))
-    (words-fix _ (o .1 .1 .0) (q .1 .1 .0) (g ∙ sym h) (x .promised .1) (y .promised .1)
-    (turned-holds t (o .1 .1 .0) (g ∙ sym (asked .0)) (asked .1) (x .promised .0))
-    (turned-holds t (q .1 .1 .0) (h ∙ sym (asked .0)) (asked .1) (y .promised .0)))
-
-pub transpose-one-outcome :
-    OneOutcome transpose.Kinds.ps transpose.Kinds.r transpose.Reads.Asked (λ κs a r e. transpose.Reads.Learnt κs a r e × Below 64 (e .1 .0 .now))
-unfolding Transposed
-transpose-one-outcome κs a good asked o q x y =
-    let g = x .kept .1 .0 in
-    let h = y .kept .1 .0 in
-    ap (λ (l : List ℕ). (tt, (tt, (l, tt))))
-    (words-by-lanes (o .1 .1 .0) (q .1 .1 .0) (g ∙ sym h) (x .promised .1) (y .promised .1)
-    (λ k j l m. let n : k < 16 = omega arith in x .promised .0 j k m n ∙ sym (y .promised .0 j k m n)))
-
--- the bytes of sixteen parties, written over the start of the old ones
-parties-packed-fix : (words old x y : List ℕ) → length x ≡ length y → Bytes x → Bytes y → PartiesPacked words old x → PartiesPacked words old y → x ≡ y
-parties-packed-fix words old x y e hx hy p r = bytes-in-front (8 * length words) x y e hx hy (λ i h. front i (omega arith)) (p .rest ∙ sym (r .rest))
-  where
-    front : (i : ℕ) → i < 16 * length words → nib x i ≡ nib y i
-    front i h =
-        let m = length words in
-        let j : i / m < 16 = div-lt-iff-lt-mul {k = m} {x = i} {y = 16} (omega arith) .1 h in
-        let k : i % m < m = mod-lt i (omega arith) in
-        subst (λ (n : ℕ). nib x n ≡ nib y n) (div-add-mod i m) (p .elements (i / m) (i % m) j k ∙ sym (r .elements (i / m) (i % m) j k))
-
-pub pack-parties-one-outcome :
-    OneOutcome pack-parties.Kinds.ps pack-parties.Kinds.r pack-parties.Reads.Asked (λ κs a r e. pack-parties.Reads.Learnt κs a r e × Bytes (e .1 .0 .now))
-pack-parties-one-outcome κs a good asked o q x y =
-    ap (λ (l : List ℕ). (tt, (tt, (l, tt))))
-    (parties-packed-fix (a .0 .now) (a .1 .0 .now) (o .1 .1 .0) (q .1 .1 .0) (x .kept .1 .0 ∙ sym (y .kept .1 .0)) (x .promised .1) (y .promised .1) (x .promised .0) (y .promised .0))
+pub copy-words-one-outcome : OneOutcome copy-words.Kinds.ps copy-words.Kinds.r copy-words.Reads.Asked copy-words.Reads.Learnt
+copy-words-one-outcome κs a good asked o q x y = ap (λ (l : List ℕ). (tt, (tt, (l, tt)))) (x .promised ∙ sym (y .promised))

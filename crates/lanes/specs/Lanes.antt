@@ -3,7 +3,7 @@
 -- Assumes nothing.
 use mathlib.Core.Path.{_≡_}
 use mathlib.Core.List.{List}
-use Prim.Native.Nat.{ℕ, _+_, _*_, _/_, _%_, _^_, _≤_, _<_}
+use Prim.Native.Nat.{ℕ, _+_, _*_, _/_, _%_, _^_, _<_}
 use lib.ListN.{length, getD}
 use Rattle.memory.specs.Lists.{table}
 use Rattle.field.specs.Field.{mul}
@@ -24,14 +24,6 @@ Times w e r = (k : ℕ) → k < 16 → lane k r ≡ mul (lane k w) e
 -- entry e of the words is e times w, lane by lane
 unfoldable pub Multiples : ℕ → List ℕ → Type 0
 Multiples w ws = (e k : ℕ) → e < 16 → k < 16 → lane k (getD ws e 0) ≡ mul e (lane k w)
-
--- lane i of word j is lane j of word i
-unfoldable pub Transposed : List ℕ → List ℕ → Type 0
-Transposed x y = (i j : ℕ) → i < 16 → j < 16 → lane i (getD y j 0) ≡ lane j (getD x i 0)
-
--- in each whole group of sixteen words, which starts at 16 w, lane q of word j is lane j of word q
-unfoldable pub Turned : List ℕ → List ℕ → Type 0
-Turned x y = (w j q : ℕ) → 16 * w + 16 ≤ length x → j < 16 → q < 16 → lane q (getD y (16 * w + j) 0) ≡ lane j (getD x (16 * w + q) 0)
 
 -- the eight bytes of a word, the lowest first
 unfoldable pub wordBytes : ℕ → List ℕ

@@ -1,3 +1,1 @@
 pub mod Lanes
-pub mod Stages
-pub mod Parties

@@ -1,3 +1,4 @@
 pub mod OneOutcome
 pub mod Rule
+pub mod Sizes
 pub mod Small

@@ -8,8 +8,7 @@ use lib.ListN.{length, getD, drop}
 use Rattle.memory.specs.Lists.{put}
 use Rattle.field.specs.Packing.{nib}
 use Rattle.lanes.specs.Lanes.{lane, wordBytes}
-use Rattle.lanes.proofs.Bytes.{nib-put-before, nib-put-word, length-wordBytes}
-use Rattle.lanes.proofs.Windows.{put-behind}
+use Rattle.lanes.proofs.Bytes.{nib-put-before, nib-put-word, length-wordBytes, put-behind}
 use Rattle.marks.specs.Marks.{HoldsWords, WordsStored}
 
 -- the first n words are written

@@ -3,6 +3,7 @@ pub mod Bytes
 pub mod Comparing
 pub mod Copied
 pub mod Digits
+pub mod Entries
 pub mod Every
 pub mod Groups
 pub mod Lists

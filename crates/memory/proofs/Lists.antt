@@ -1,18 +1,24 @@
--- The laws of a list by its rule, `table`, and the room of n parts.
+-- The laws of a list by its rule, `table`, the room of n parts, and what is left of a value repeated.
 -- Assumes nothing.
 use mathlib.Core.Path.{_≡_, refl, sym, ap, ap₂, _∙_, subst}
 use mathlib.Core.List.{List, [], _∷_, _++_}
 use Prim.Native.Nat.{ℕ, zero, suc, _+_, _-_, _*_, _≤_, _<_}
-use native.Mathlib.Nat.{mul-le-mul-right, suc-mul}
+use native.Mathlib.Nat.{mul-le-mul-right, suc-mul, sub-zero}
 use native.Mathlib.Decide.{decLt}
 use native.Mathlib.Omega.{arith}
-use lib.ListN.{length, getD, length-append, List·getD-append}
+use lib.ListN.{length, getD, drop, replicate, length-append, List·getD-append}
 use lib.Seq.{ext-getD, getD-append-add, getD-at}
 use Rattle.memory.specs.Lists.{table}
 
 -- n parts of w entries each: the i-th has room
 pub room : (i n w : ℕ) → i < n → i * w + w ≤ n * w
 room i n w h = subst (λ (k : ℕ). k ≤ n * w) (suc-mul i w) (mul-le-mul-right w h)
+
+-- a value repeated k times, without the first n
+pub drop-replicate : (n k v : ℕ) → drop n (replicate k v) ≡ replicate (k - n) v
+drop-replicate zero k v = ap (λ (m : ℕ). replicate m v) (sym (sub-zero k))
+drop-replicate (suc n) zero v = ap (λ (m : ℕ). replicate m v) (let e : 0 ≡ 0 - suc n = omega arith in e)
+drop-replicate (suc n) (suc k) v = drop-replicate n k v ∙ ap (λ (m : ℕ). replicate m v) (let e : k - n ≡ suc k - suc n = omega arith in e)
 
 -- ---- a list by its rule
 

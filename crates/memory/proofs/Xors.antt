@@ -1,7 +1,7 @@
 -- Laws for loops that write a list entry by entry over another of its length, for zeros, and for parts: what was written over the start of a list, a room that
 -- was lent from its start, and a part by its size. Assumes nothing.
 use mathlib.Core.Path.{_≡_, refl, ap, ap₂, _∙_}
-use mathlib.Core.List.{List, [], _++_, append-nil}
+use mathlib.Core.List.{List, _++_, append-nil}
 use Prim.Native.Nat.{ℕ, zero, suc, _+_, _-_, _≤_, _<_}
 use native.Mathlib.Omega.{arith}
 use lib.ListN.{length, getD, set, take, drop, replicate, length-drop, drop-of-length-le}

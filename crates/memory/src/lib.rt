@@ -1,7 +1,7 @@
 // Copy, clear and compare lent bytes. Nothing here knows what the bytes mean.
 // No byte chooses a branch or an address: how long a call takes goes by the lengths alone.
 ghost use mathlib.Core.Path.{_≡_};
-ghost use Prim.Native.Nat.{min};
+ghost use Prim.Native.Nat.{_<_, min};
 ghost use lib.ListN.{length, replicate};
 ghost use Rattle.memory.specs.Lists.{over, same};
 
@@ -17,8 +17,8 @@ pub fn copy(src: &[u8], dst: &mut [u8])
     }
 }
 
-// The lesser of two lengths.
-fn lesser(a: usize, b: usize) -> usize
+// The lesser of two numbers.
+pub fn lesser(a: usize, b: usize) -> usize
     ensures { λ r. ⌜ r ≡ min a b ⌝ }
 {
     if a < b { a } else { b }
@@ -49,4 +49,11 @@ pub fn equal(a: &[u8], b: &[u8]) -> bool
         i += 1;
     }
     difference == 0
+}
+
+// A byte as a number or a place.
+pub fn wide(b: u8) -> usize
+    ensures { λ r. ⌜ (r ≡ b) × (r < 256) ⌝ }
+{
+    b as usize
 }

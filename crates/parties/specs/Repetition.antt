@@ -23,6 +23,10 @@ challenge P h₁ e = expandElements h₁ (P .m) e
 unfoldable pub hiddenParty : Params → List ℕ → ℕ → ℕ
 hiddenParty P h₂ e = expandIndex h₂ (P .l) e
 
+-- algorithm 12, lines 10 to 12: the bytes of a tape that a party takes, for n elements, then m, then m, each from a whole byte on
+unfoldable pub tapeLength : ℕ → ℕ → ℕ
+tapeLength n m = packedLength n + packedLength m + packedLength m
+
 -- ---- what the two hashes cover for one repetition
 
 -- algorithm 12, line 22: all commitments, then Δs packed, then Δc packed

@@ -1,6 +1,6 @@
 -- Phase 3, repetition after repetition: what the second hash has absorbed, for every signer whose secret, roots, circuit, challenges and corrections are lent. Assumes nothing.
-use mathlib.Core.Path.{_≡_, sym, ap, subst, _∙_}
-use mathlib.Core.List.{List, flatten}
+use mathlib.Core.Path.{_≡_, refl, sym, ap, subst, _∙_}
+use mathlib.Core.List.{List}
 use Prim.Native.Nat.{ℕ, _+_, _≤_, _<_}
 use native.Mathlib.Omega.{arith}
 use lib.ListN.{length, take, drop}
@@ -15,11 +15,11 @@ use Rattle.refusals.specs.Refusals.{workLength}
 use Rattle.biscuit.specs.Signature.{repeated}
 use Rattle.biscuit.specs.Sign as sign
 use Rattle.biscuit.specs.Sign.{Signer}
-use Rattle.biscuit.specs.Room.{Fits, leavesAt, rootsAt, challengesAt}
+use Rattle.biscuit.specs.Room.{Fits, leavesAt, rootsAt}
 use Rattle.biscuit.proofs.Room.{behind-roots}
-use Rattle.passes.specs.Passes.{seedsIn, HoldsRoots, Kept}
+use Rattle.passes.specs.Passes.{HoldsRoots, Kept}
 use Rattle.passes.proofs.Committing.{absorbing-repetition}
-use Rattle.replies.specs.Replies.{HoldsChallenges, Challenged, valuesIn, answersIn}
+use Rattle.replies.specs.Replies.{HoldsChallenges, Challenged, answersOf}
 use Rattle.replies.proofs.Signed.{answers-signed}
 
 -- where work has the parts that stay, it has them of the same signer
@@ -36,15 +36,29 @@ challenged-kept P signer msg salt secret packing before after k h = record {
 abbrev pub answersUpTo : Params → Signer → List ℕ → ℕ → List ℕ
 answersUpTo P signer msg count = repeated count (λ e. repetition.second (sign.αs P signer msg e) (sign.allV P signer msg e))
 
-pub answering-more : (P : Params) → Fits P → (signer : Signer) (msg salt secret packing work : List ℕ) (count : ℕ) (s r r′ : Sponge) → length secret ≡ P .n + P .m + P .m → length work ≡ workLength
-    → Challenged P signer msg salt secret packing work → HoldsRoots P signer (drop (rootsAt P) work) → count < P .tau → Absorbing s r (answersUpTo P signer msg count) count
-    → ((f : Circuit) → HoldsCircuit (P .n) (P .m) f (take (leavesAt P) work)
-    → r′ ≡ absorbed r (answersIn P f (count + 1) salt (valuesIn P (count + 1) secret packing (drop (challengesAt P) work)) (flatten (seedsIn P salt (drop (rootsAt P) work) (count + 1)))))
-    → Absorbing s r′ (answersUpTo P signer msg (count + 1)) (count + 1)
-answering-more P f signer msg salt secret packing work count s r r′ size whole challenged rooted less done turn =
-    absorbing-repetition count (λ e. repetition.second (sign.αs P signer msg e) (sign.allV P signer msg e)) s r r′ done
-    (turn (sign.f P signer) (challenged .circuit)
-    ∙ ap (absorbed r) (answers-signed P signer msg salt secret packing work size challenged (count + 1) (omega arith) (omega arith) f whole rooted))
+-- one repetition more, and two
+module _ (P : Params) (f : Fits P) (signer : Signer) (msg salt secret packing work : List ℕ) (size : length secret ≡ P .n + P .m + P .m) (whole : length work ≡ workLength)
+    (challenged : Challenged P signer msg salt secret packing work) (rooted : HoldsRoots P signer (drop (rootsAt P) work)) where
+  signed-more : (count : ℕ) (s r r′ : Sponge) → count < P .tau → Absorbing s r (answersUpTo P signer msg count) count
+      → r′ ≡ absorbed r (answersOf P (sign.f P signer) (count + 1) salt secret packing work) → Absorbing s r′ (answersUpTo P signer msg (count + 1)) (count + 1)
+  signed-more count s r r′ less done turn =
+      absorbing-repetition count (λ e. repetition.second (sign.αs P signer msg e) (sign.allV P signer msg e)) s r r′ done
+      (turn ∙ ap (absorbed r) (answers-signed P signer msg salt secret packing work size challenged (count + 1) (omega arith) (omega arith) f whole rooted))
+
+  pub answering-more : (count : ℕ) (s r r′ : Sponge) → count < P .tau → Absorbing s r (answersUpTo P signer msg count) count
+      → ((c : Circuit) → HoldsCircuit (P .n) (P .m) c (take (leavesAt P) work) → r′ ≡ absorbed r (answersOf P c (count + 1) salt secret packing work))
+      → Absorbing s r′ (answersUpTo P signer msg (count + 1)) (count + 1)
+  answering-more count s r r′ less done turn = signed-more count s r r′ less done (turn (sign.f P signer) (challenged .circuit))
+
+  pub answering-two : (count : ℕ) (s r r′ : Sponge) → count + 1 < P .tau → Absorbing s r (answersUpTo P signer msg count) count
+      → ((c : Circuit) → HoldsCircuit (P .n) (P .m) c (take (leavesAt P) work)
+      → r′ ≡ absorbed (absorbed r (answersOf P c (count + 1) salt secret packing work)) (answersOf P c (count + 1 + 1) salt secret packing work))
+      → Absorbing s r′ (answersUpTo P signer msg (count + 2)) (count + 2)
+  answering-two count s r r′ less done turn =
+      let e : count + 1 + 1 ≡ count + 2 = omega arith in
+      let between = absorbed r (answersOf P (sign.f P signer) (count + 1) salt secret packing work) in
+      subst (λ (k : ℕ). Absorbing s r′ (answersUpTo P signer msg k) k) e
+      (signed-more (count + 1) s between r′ less (signed-more count s r between (omega arith) done refl) (turn (sign.f P signer) (challenged .circuit)))
 
 pub answered-all : (P : Params) (signer : Signer) (msg : List ℕ) (count : ℕ) (s r : Sponge) → count ≡ P .tau → 1 ≤ P .tau → Absorbing s r (answersUpTo P signer msg count) count
     → r ≡ absorbed s (sign.σ₂ P signer msg)

@@ -7,7 +7,6 @@ use native.Mathlib.Decide.{decLe}
 use native.Mathlib.Omega.{arith}
 use lib.Dec.{eqb}
 use lib.ListN.{length, getD, take, drop}
-use lib.Pow.{pow-mono}
 use Rattle.field.specs.Packing.{Elements, nib, packedLength}
 use Rattle.field.specs.Vectors.{_⊕_}
 use Rattle.field.proofs.Packing.{unpack-elements}
@@ -33,9 +32,6 @@ use Rattle.replies.specs.Replies.{Challenged, HoldsHidden, HoldsLeaves, 
 use Rattle.replies.proofs.Signed.{alpha-signed}
 
 -- ---- one repetition
-
-pub hidden-small : (l : ℕ) (bytes : List ℕ) (e : ℕ) → l ≤ 8 → hiddenIn l bytes e ≤ 4096
-hidden-small l bytes e h = let a = hidden-within l bytes e in let b = pow-mono {i = l} {j = 8} h in omega arith
 
 corrected-mask : (Δs Δc : List ℕ) (i : ℕ) (p : Share) → Elements (p .a) → Elements (corrected Δs Δc i p .a)
 unfolding corrected

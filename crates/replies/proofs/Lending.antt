@@ -71,6 +71,12 @@ module _ (P : Params) (e : ℕ) (f : Fits P) (rep : Rep) (same : rep ≡ repOf P
   pub rep-values : (v : List ℕ) → length v ≡ P .n + 4 * P .m → length v ≡ valuesLength rep
   rep-values v h = subst (λ (q : Rep). length v ≡ valuesLength q) (sym same) (omega arith)
 
+  pub rep-groups : groups P ≡ 1 → rep .groups ≡ 1
+  rep-groups h = ap (λ (q : Rep). q .groups) same ∙ h
+
+  pub rep-leaves : (size : ℕ) → size ≡ 16 * groups P * S P → size ≡ 16 * rep .groups * rep .s
+  rep-leaves size h = h ∙ sym (ap (λ (q : Rep). 16 * q .groups * q .s) same)
+
   pub rep-equations : (v : List ℕ) → length v ≡ P .m → length v ≡ rep .m
   rep-equations v h = h ∙ sym (ap (λ (q : Rep). q .m) same)
 

@@ -1,6 +1,7 @@
 pub mod Values
 pub mod Signed
 pub mod Lending
+pub mod Pairing
 pub mod Answering
 pub mod Hiding
 pub mod Expanded

@@ -1,6 +1,6 @@
 -- Phases 3 and 5 of signing over all repetitions: what a signer of algorithm 12 has after phases 2 and 4, as it is lent, and what one repetition takes from it. Assumes nothing.
 use mathlib.Core.Path.{_≡_}
-use mathlib.Core.List.{List, [], _++_}
+use mathlib.Core.List.{List, [], _++_, flatten}
 use Prim.Native.Nat.{ℕ, _+_, _-_, _*_, _≤_}
 use lib.ListN.{getD, take, drop, replicate}
 use Rattle.sets.specs.Sets.{S}
@@ -14,8 +14,8 @@ use Rattle.group.specs.Shares as shares
 use Rattle.answers.specs.Answers.{sharesOf, answered}
 use Rattle.vectors.specs.Elements.{elementsAt}
 use Rattle.biscuit.specs.Sign.{Signer, f, seeds, ε, αs, hidden}
-use Rattle.biscuit.specs.Room.{groups, leavesAt, challengesAt, rootIn}
-use Rattle.passes.specs.Passes.{tIn, HoldsSecret, HoldsCorrections}
+use Rattle.biscuit.specs.Room.{groups, leavesAt, rootsAt, challengesAt, rootIn}
+use Rattle.passes.specs.Passes.{seedsIn, tIn, HoldsSecret, HoldsCorrections}
 
 -- ---- what is lent
 
@@ -52,6 +52,11 @@ valuesIn P e secret packing challenges =
 -- lines 26 to 34: what the second hash takes
 unfoldable pub answersIn : Params → Circuit → ℕ → List ℕ → List ℕ → List ℕ → List ℕ
 answersIn P f e salt values leaves = answered f (repOf P e) values (sharesOf P (repOf P e) salt leaves values)
+
+-- the same from what is lent: the values, and the leaves of the repetition's root
+abbrev pub answersOf : Params → Circuit → ℕ → List ℕ → List ℕ → List ℕ → List ℕ → List ℕ
+answersOf P f e salt secret packing work =
+    answersIn P f e salt (valuesIn P e secret packing (drop (challengesAt P) work)) (flatten (seedsIn P salt (drop (rootsAt P) work) e))
 
 -- line 27: the α of party i
 unfoldable pub alphaIn : Params → Circuit → ℕ → ℕ → List ℕ → List ℕ → List ℕ → List ℕ

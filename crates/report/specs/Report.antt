@@ -68,9 +68,8 @@ pub record ReportOutcome : Type 0 where
 abbrev pub reportEnded : ℕ → List ℕ → List ℕ → ReportOutcome
 reportEnded count line work = record { count = count; line = line; work = work }
 
--- what it promises: work is as verifying leaves it, and untouched where reading refuses
+-- what it promises; work is as the number says, so that it is untouched where reading refuses
 unfoldable pub reportOutcome : List ℕ → List ℕ → List ℕ → ReportOutcome
 reportOutcome e lineBefore workBefore =
     let number = reportNumber e workBefore in
-    reportEnded (length (said number (headerOf e))) (over (said number (headerOf e)) lineBefore)
-    (cond (eqb (readNumber e) done) (workAfter number workBefore) workBefore)
+    reportEnded (length (said number (headerOf e))) (over (said number (headerOf e)) lineBefore) (workAfter number workBefore)

@@ -26,9 +26,9 @@ use Rattle.hashes.specs.Hashes.{tapeFields}
 use Rattle.forms.specs.Circuit.{Circuit, formsOf, affine, linear}
 use Rattle.forms.specs.Room.{circuitIn, affineIn, HoldsCircuit}
 use Rattle.parties.specs.Parties.{Share, corrected, xOf, alphaOf}
-use Rattle.parties.specs.Repetition.{rawShare}
+use Rattle.parties.specs.Repetition.{tapeLength, rawShare}
 use Rattle.group.specs.declared.Rep.{Rep}
-use Rattle.group.specs.Shares.{deltaS, deltaC, epsilon, tapeLength, sampled, paramsIn}
+use Rattle.group.specs.Shares.{deltaS, deltaC, epsilon, sampled, paramsIn}
 use Rattle.group.proofs.Shares.{raw-same, sampled-raw}
 
 -- ---- single elements
@@ -151,15 +151,15 @@ module _ (rep : Rep) (i : ℕ) (circuit v tape : List ℕ) where
       ∙ ap (λ (a : List ℕ). formsOf i (affineIn (rep .n) (rep .m) circuit) (party .s) ⊙ epsilon rep v ⊕ a) (ap₂ (λ (n j : ℕ). unpack n (drop j tape)) el em ∙ sym own-mask)
 
 -- the tape as the hash gives it
-pub alpha-tape : (rep : Rep) (i : ℕ) (circuit v fields tape out : List ℕ) (k : ℕ) → k ≡ tapeLength rep → tape ≡ shake256 fields k
+pub alpha-tape : (rep : Rep) (i : ℕ) (circuit v fields tape out : List ℕ) (k : ℕ) → k ≡ tapeLength (rep .n) (rep .m) → tape ≡ shake256 fields k
     → out ≡ alphaOf (circuitIn (rep .n) (rep .m) circuit) (epsilon rep v) i (corrected (deltaS rep v) (deltaC rep v) i (sampled rep tape))
-    → out ≡ alphaOf (circuitIn (rep .n) (rep .m) circuit) (epsilon rep v) i (corrected (deltaS rep v) (deltaC rep v) i (sampled rep (shake256 fields (tapeLength rep))))
+    → out ≡ alphaOf (circuitIn (rep .n) (rep .m) circuit) (epsilon rep v) i (corrected (deltaS rep v) (deltaC rep v) i (sampled rep (shake256 fields (tapeLength (rep .n) (rep .m)))))
 alpha-tape rep i circuit v fields tape out k ek et eo =
     eo ∙ ap (λ (t : List ℕ). alphaOf (circuitIn (rep .n) (rep .m) circuit) (epsilon rep v) i (corrected (deltaS rep v) (deltaC rep v) i (sampled rep t))) (et ∙ ap (shake256 fields) ek)
 
 -- for any circuit that the bytes hold, and any parameters of this size
 pub alpha-held : (rep : Rep) (i : ℕ) (circuit v salt seed out : List ℕ)
-    → out ≡ alphaOf (circuitIn (rep .n) (rep .m) circuit) (epsilon rep v) i (corrected (deltaS rep v) (deltaC rep v) i (sampled rep (shake256 (tapeFields salt (rep .e) i seed) (tapeLength rep))))
+    → out ≡ alphaOf (circuitIn (rep .n) (rep .m) circuit) (epsilon rep v) i (corrected (deltaS rep v) (deltaC rep v) i (sampled rep (shake256 (tapeFields salt (rep .e) i seed) (tapeLength (rep .n) (rep .m)))))
     → (P : Params) (f : Circuit) → P .n ≡ rep .n → P .m ≡ rep .m → HoldsCircuit (rep .n) (rep .m) f circuit
     → out ≡ alphaOf f (epsilon rep v) i (corrected (deltaS rep v) (deltaC rep v) i (rawShare P salt (rep .e) i seed))
 unfolding HoldsCircuit

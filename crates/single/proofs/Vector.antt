@@ -15,10 +15,10 @@ use Rattle.field.specs.Field.{coefficient}
 use Rattle.field.specs.Packing.{nib, pack, unpack, packedLength}
 use Rattle.field.specs.Vectors.{_!_, dot}
 use Rattle.field.proofs.Packing.{length-pack, nib-pack, nib-append-left, nib-append-right}
+use Rattle.field.proofs.Sums.{sumOf-stop}
 use Rattle.marks.specs.Marks.{EachWord, laneSum}
 use Rattle.forms.specs.Circuit.{linear}
 use Rattle.forms.specs.Room.{circuitLength, affineIn}
-use Rattle.forms.proofs.Added.{sumOf-stop}
 use Rattle.forms.proofs.Circuit.{linear-at, length-linear}
 use Rattle.forms.proofs.Evaluated.{row-dot}
 use Rattle.forms.proofs.Room.{affine-size, circuit-three, row-in, length-rows-in}

@@ -12,15 +12,16 @@ use lib.Pow.{shr-shr, mod-mod-pow}
 use Rattle.memory.proofs.Bits.{xor-middle}
 use Rattle.memory.proofs.Digits.{digit-mod}
 use Rattle.memory.proofs.Every.{every-at, same1, same2}
+use Rattle.memory.proofs.Entries.{part-lent, entry-more}
 use Rattle.field.specs.Field.{mul, coefficient, polynomialProduct, without, modulus}
 use Rattle.field.specs.Packing.{nib}
+use Rattle.field.specs.Sums.{sumOf}
 use Rattle.field.proofs.Laws.{mul-xor-l, mul-low-r}
+use Rattle.field.proofs.Sums.{sumOf-add}
 use Rattle.lanes.specs.Lanes.{lane, Times, WordAt}
 use Rattle.lanes.proofs.Laws.{lane-lt, lane-zero, lane-xor, lane-and, lane-masked}
 use Rattle.marks.specs.Marks as marks
 use Rattle.marks.proofs.Sums.{sum-same, sum-xor}
-use Rattle.forms.specs.Rows.{sumOf}
-use Rattle.forms.proofs.Added.{sumOf-add, part-lent, entry-more}
 use Rattle.single.specs.Masks.{MaskOf, MasksOf, RowsOf, weigh}
 
 -- ---- a mask

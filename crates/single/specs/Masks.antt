@@ -7,9 +7,9 @@ use lib.Bits.{bitXor}
 use lib.ListN.{getD}
 use Rattle.field.specs.Field.{mul, coefficient}
 use Rattle.field.specs.Packing.{nib}
+use Rattle.field.specs.Sums.{sumOf}
 use Rattle.lanes.specs.Lanes.{lane}
 use Rattle.marks.specs.Marks.{laneSum}
-use Rattle.forms.specs.Rows.{sumOf}
 
 -- r has 15 in the lanes of x that have the bit b, and 0 elsewhere
 unfoldable pub MaskOf : ℕ → ℕ → ℕ → Type 0

@@ -3,6 +3,9 @@
 mod masks;
 
 use group::Rep;
+use parties::LONGEST_TAPE;
+use sets::MOST_EQUATIONS;
+use sets::MOST_VARIABLES;
 ghost use mathlib.Core.Bool.{cond};
 ghost use mathlib.Core.Path.{_≡_};
 ghost use Prim.Native.Nat.{ℕ, _*_, _≤_, _<_};
@@ -17,15 +20,8 @@ ghost use Rattle.hashes.specs.Hashes.{tapeFields};
 ghost use Rattle.forms.specs.Circuit.{Circuit, formsOf, linear};
 ghost use Rattle.forms.specs.Room.{circuitLength, circuitIn, affineIn, HoldsCircuit};
 ghost use Rattle.parties.specs.Parties.{corrected, alphaOf};
-ghost use Rattle.parties.specs.Repetition.{rawShare};
-ghost use Rattle.group.specs.Shares.{Sized, valuesLength, deltaS, deltaC, epsilon, tapeLength, sampled};
-
-// The bytes of the longest tape, the most variables and the most equations.
-const TAPE: usize = 181;
-
-const VARIABLES: usize = 118;
-
-const EQUATIONS: usize = 121;
+ghost use Rattle.parties.specs.Repetition.{tapeLength, rawShare};
+ghost use Rattle.group.specs.Shares.{Sized, valuesLength, deltaS, deltaC, epsilon, sampled};
 
 // Eight words of sixteen elements hold any vector: their bytes, and their masks.
 const PACKED: usize = 64;
@@ -47,8 +43,8 @@ pub fn alpha_of(
 {
     let n = rep.n;
     let e = n / 2 + n % 2 + (rep.m / 2 + rep.m % 2) + (rep.m / 2 + rep.m % 2);
-    let mut tape = [0u8; TAPE];
-    let mut s = [0u8; VARIABLES];
+    let mut tape = [0u8; LONGEST_TAPE];
+    let mut s = [0u8; MOST_VARIABLES];
     alpha_in(
         rep,
         salt,
@@ -74,8 +70,8 @@ fn alpha_in(
     s: &mut [u8],
     out: &mut [u8],
 )
-    requires { ⌜ (Sized rep) × (length (now salt) ≤ 64) × (length (now circuit) ≡ circuitLength (rep .n) (rep .m)) × (length (now values) ≡ valuesLength rep) × (length (now seed) ≤ 32) × (length (now tape) ≡ tapeLength rep) × (length (now s) ≡ rep .n) × (length (now out) ≡ rep .m) ⌝ }
-    ensures { λ r. ⌜ now (out .exit) ≡ alphaOf (circuitIn (rep .n) (rep .m) (now (circuit .entry))) (epsilon rep (now (values .entry))) i (corrected (deltaS rep (now (values .entry))) (deltaC rep (now (values .entry))) i (sampled rep (shake256 (tapeFields (now (salt .entry)) (rep .e) i (now (seed .entry))) (tapeLength rep)))) ⌝ }
+    requires { ⌜ (Sized rep) × (length (now salt) ≤ 64) × (length (now circuit) ≡ circuitLength (rep .n) (rep .m)) × (length (now values) ≡ valuesLength rep) × (length (now seed) ≤ 32) × (length (now tape) ≡ tapeLength (rep .n) (rep .m)) × (length (now s) ≡ rep .n) × (length (now out) ≡ rep .m) ⌝ }
+    ensures { λ r. ⌜ now (out .exit) ≡ alphaOf (circuitIn (rep .n) (rep .m) (now (circuit .entry))) (epsilon rep (now (values .entry))) i (corrected (deltaS rep (now (values .entry))) (deltaC rep (now (values .entry))) i (sampled rep (shake256 (tapeFields (now (salt .entry)) (rep .e) i (now (seed .entry))) (tapeLength (rep .n) (rep .m))))) ⌝ }
 {
     hashes::tape(salt, rep.e, i, seed, tape);
     of_tape(rep, i, circuit, values, tape, s, out);
@@ -146,7 +142,7 @@ fn first_forms(circuit: &[u8], n: usize, m: usize, s: &[u8], out: &mut [u8])
 {
     let mut packed = [0u8; PACKED];
     let mut all = [0u64; MASKS];
-    let mut sums = [0u64; EQUATIONS];
+    let mut sums = [0u64; MOST_EQUATIONS];
     forms_in(
         circuit,
         n,

@@ -5,9 +5,9 @@ ghost use Prim.Native.Nat.{ℕ, _+_, _*_, _≤_, _<_};
 ghost use lib.ListN.{length, getD};
 ghost use Rattle.field.specs.Packing.{nib};
 ghost use Rattle.field.specs.Vectors.{_!_};
+ghost use Rattle.field.specs.Sums.{sumOf};
 ghost use Rattle.lanes.specs.Lanes.{lane};
 ghost use Rattle.marks.specs.Marks.{laneSum};
-ghost use Rattle.forms.specs.Rows.{sumOf};
 ghost use Rattle.single.specs.Masks.{MaskOf, MasksOf, RowsOf, weigh};
 
 // The words of sixteen elements that hold any vector, and the ones of a word.

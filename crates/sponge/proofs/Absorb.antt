@@ -195,15 +195,27 @@ absorb-turn s bytes i n S x at r h k en so-far ex er =
 
 -- ---- a message that is shorter than a block: its bytes, the suffix and the padding are xored into a state of zeros
 
-pub short-tape : (m x y z S : List ℕ) → length m < rate → x ≡ xorBytes (replicate 25 0) 0 m → y ≡ xorByte x (length m) 0x1f → z ≡ xorByte y (rate - 1) 0x80 → S ≡ keccakF z
-    → tape S 0 ≡ finished (absorbed fresh m)
+-- the zeros behind the message change nothing
+xorBytes-short : (S block : List ℕ) (n k : ℕ) → drop n block ≡ replicate k 0 → xorBytes S 0 block ≡ xorBytes S 0 (take n block)
+xorBytes-short S block n k e =
+    sym (xored-bytes S block)
+    ∙ ap (xored S) (sym (take-append-drop n block) ∙ ap (λ (r : List ℕ). take n block ++ r) e)
+    ∙ xored-zeros S (take n block) k
+    ∙ xored-bytes S (take n block)
+
+pub short-tape : (block : List ℕ) (n : ℕ) (x y z S : List ℕ) → n < rate → length block ≡ rate → drop n block ≡ replicate (rate - n) 0
+    → x ≡ xorBytes (replicate 25 0) 0 block → y ≡ xorByte x n 0x1f → z ≡ xorByte y (rate - 1) 0x80 → S ≡ keccakF z
+    → tape S 0 ≡ finished (absorbed fresh (take n block))
 unfolding fresh
-short-tape m x y z S h ex ey ez eS =
-    ap (λ (T : List ℕ). tape T 0) (eS ∙ ap keccakF (ez ∙ ap (λ (T : List ℕ). xorByte T (rate - 1) 0x80) (ey ∙ ap (λ (T : List ℕ). xorByte T (length m) 0x1f) ex)))
-    ∙ sym (ap finished absorbed-all ∙ finished-part (xorBytes (replicate 25 0) 0 m) (length m) h)
+short-tape block n x y z S h l e ex ey ez eS =
+    ap (λ (T : List ℕ). tape T 0) (eS ∙ ap keccakF (ez ∙ ap (λ (T : List ℕ). xorByte T (rate - 1) 0x80) (ey ∙ ap (λ (T : List ℕ). xorByte T n 0x1f) (ex ∙ xorBytes-short (replicate 25 0) block n (rate - n) e))))
+    ∙ sym (ap finished absorbed-all ∙ finished-part (xorBytes (replicate 25 0) 0 (take n block)) n h)
   where
-    absorbed-all : absorbed (sponge (replicate 25 0) 0) m ≡ sponge (xorBytes (replicate 25 0) 0 m) (length m)
+    long : length (take n block) ≡ n
+    long = length-take-le n block (omega arith)
+
+    absorbed-all : absorbed (sponge (replicate 25 0) 0) (take n block) ≡ sponge (xorBytes (replicate 25 0) 0 (take n block)) n
     absorbed-all =
-        absorbed-run (replicate 25 0) 0 m (omega arith) (omega arith)
-        ∙ ap (turned (xorBytes (replicate 25 0) 0 m)) (let e : 0 + length m ≡ length m = omega arith in e)
-        ∙ turned-open (xorBytes (replicate 25 0) 0 m) (length m) h
+        absorbed-run (replicate 25 0) 0 (take n block) (omega arith) (omega (arith, long))
+        ∙ ap (turned (xorBytes (replicate 25 0) 0 (take n block))) (let g : 0 + length (take n block) ≡ n = omega (arith, long) in g)
+        ∙ turned-open (xorBytes (replicate 25 0) 0 (take n block)) n h

@@ -26,4 +26,4 @@ squeeze-one-outcome κs a good asked o q x y =
     ap₂ (λ (t : Tape) (l : List ℕ). (t, (tt, (l, tt)))) (x .promised .1 ∙ sym (y .promised .1)) (x .promised .0 ∙ sym (y .promised .0))
 
 pub short-one-outcome : OneOutcome short.Kinds.ps short.Kinds.r short.Reads.Asked short.Reads.Learnt
-short-one-outcome κs a good asked o q x y = ap (λ (l : List ℕ). (tt, (tt, (l, tt)))) (x .promised ∙ sym (y .promised))
+short-one-outcome κs a good asked o q x y = ap (λ (l : List ℕ). (tt, (tt, (tt, (l, tt))))) (x .promised ∙ sym (y .promised))

@@ -3,8 +3,8 @@
 mod part;
 
 ghost use mathlib.Core.Path.{_≡_};
-ghost use Prim.Native.Nat.{min, _<_};
-ghost use lib.ListN.{length};
+ghost use Prim.Native.Nat.{_-_, _<_};
+ghost use lib.ListN.{length, take, drop, replicate};
 ghost use Rattle.keccak.specs.Keccak.{keccakF};
 ghost use Rattle.sponge.specs.Sponge.{rate, shake256};
 ghost use Rattle.sponge.specs.Steps.{sponge, tape, fresh, absorbed, finished, given, moved, turned, ready};
@@ -41,7 +41,7 @@ impl Sponge {
         let mut at = self.at % RATE;
         let mut i = 0;
         while i < bytes.len() {
-            let n = lesser(RATE - at, bytes.len() - i);
+            let n = memory::lesser(RATE - at, bytes.len() - i);
             let e = i + n;
             part::xor(&mut lanes, at, &bytes[i..e]);
             at = turn(&mut lanes, at + n);
@@ -74,7 +74,7 @@ impl Tape {
         let mut i = 0;
         while i < out.len() {
             at = renew(&mut lanes, at);
-            let n = lesser(RATE - at, out.len() - i);
+            let n = memory::lesser(RATE - at, out.len() - i);
             let e = i + n;
             part::give(&lanes, at, &mut out[i..e]);
             at = at + n;
@@ -84,14 +84,14 @@ impl Tape {
     }
 }
 
-// SHAKE256 of a message that is shorter than a block, in one go: its state is never handed on.
-pub fn short(message: &[u8], out: &mut [u8])
-    requires { ⌜ length (now message) < rate ⌝ }
-    ensures { λ r. ⌜ now (out .exit) ≡ shake256 (now (message .entry)) (length (now (out .entry))) ⌝ }
+// SHAKE256 of the first n bytes of a block whose other bytes are 0, in one go: its state is never handed on.
+pub fn short(block: &[u8], n: usize, out: &mut [u8])
+    requires { ⌜ (n < rate) × (length (now block) ≡ rate) × (drop n (now block) ≡ replicate (rate - n) 0) ⌝ }
+    ensures { λ r. ⌜ now (out .exit) ≡ shake256 (take n (now (block .entry))) (length (now (out .entry))) ⌝ }
 {
     let mut lanes = [0u64; 25];
-    part::xor(&mut lanes, 0, message);
-    part::xor_byte(&mut lanes, message.len(), 0x1f);
+    part::xor_words(&mut lanes, 0, block);
+    part::xor_byte(&mut lanes, n, 0x1f);
     part::xor_byte(&mut lanes, RATE - 1, 0x80);
     permute(&mut lanes);
     if out.len() <= RATE {
@@ -100,13 +100,6 @@ pub fn short(message: &[u8], out: &mut [u8])
     }
     let tape = Tape { lanes, at: 0 };
     tape.squeeze(out);
-}
-
-// The lesser of two lengths.
-fn lesser(a: usize, b: usize) -> usize
-    ensures { λ r. ⌜ r ≡ min a b ⌝ }
-{
-    if a < b { a } else { b }
 }
 
 // The place after a byte of the block: at its end the state is permuted and the next block begins.

@@ -67,7 +67,7 @@ fn load(bytes: &[u8]) -> u64
 }
 
 // Xors whole words into the lanes from lane k on.
-fn xor_words(lanes: &mut [u64; 25], k: usize, bytes: &[u8])
+pub fn xor_words(lanes: &mut [u64; 25], k: usize, bytes: &[u8])
     requires { ⌜ (8 * k + length (now bytes) ≤ rate) × (length (now bytes) % 8 ≡ 0) ⌝ }
     ensures { λ r. ⌜ now (lanes .exit) ≡ xorBytes (now (lanes .entry)) (8 * k) (now (bytes .entry)) ⌝ }
 {

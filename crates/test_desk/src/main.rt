@@ -1,16 +1,14 @@
 // Runs the calls of the desk for all six sets, and prints a line a case: its name, the bits that are changed for it, what is lent, the answer, and what the call left in work and in its outputs.
 // The cases are both sides of every size, which of two refusals wins, keys that are not consistent, signatures that are accepted, and damage in every part of a key, a message and a signature
-// (`table`). The file `stdout` is what the independent program prints for `expected desk`.
-mod line;
-mod marks;
-mod places;
+// (`desk_cases`). The file `stdout` is what the independent program prints for `expected desk`.
 mod runs;
-mod table;
 
-use places::SIGNATURE;
-use places::STORE;
-use table::ROW;
-use table::ROWS;
+use desk_cases::marks;
+use desk_cases::places::SIGNATURE;
+use desk_cases::places::STORE;
+use desk_cases::table;
+use desk_cases::table::ROW;
+use desk_cases::table::ROWS;
 ghost use mathlib.Core.Path.{_≡_};
 ghost use lib.ListN.{length};
 

@@ -1,16 +1,16 @@
 // One call of the desk and the rest of its line. Each run lends of every part as many bytes as the case says, and fills outputs and work before the call.
-use crate::line;
-use crate::marks::lent;
-use crate::marks::number;
-use crate::places::CIRCUIT_SEED;
-use crate::places::MESSAGE;
-use crate::places::PUBLIC_KEY;
-use crate::places::RANDOM;
-use crate::places::SECRET_KEY;
-use crate::places::SECRET_SEED;
-use crate::places::SIGNATURE;
-use crate::places::STORE;
-use crate::table::ROW;
+use desk_cases::line;
+use desk_cases::marks::lent;
+use desk_cases::marks::number;
+use desk_cases::places::CIRCUIT_SEED;
+use desk_cases::places::MESSAGE;
+use desk_cases::places::PUBLIC_KEY;
+use desk_cases::places::RANDOM;
+use desk_cases::places::SECRET_KEY;
+use desk_cases::places::SECRET_SEED;
+use desk_cases::places::SIGNATURE;
+use desk_cases::places::STORE;
+use desk_cases::table::ROW;
 ghost use mathlib.Core.Path.{_≡_};
 ghost use Prim.Native.Nat.{_≤_};
 ghost use lib.ListN.{length};

@@ -236,7 +236,7 @@ fn linear_parts_at(
 )
     requires { ⌜ (n ≤ 118) × (m ≤ 121) × (length (now circuit) ≡ circuitLength n m) × (length (now shares) ≡ n) × (length (now x) ≡ m) × (length (now y) ≡ m) × (length (now z) ≡ m) ⌝ }
 {
-    forms::linear_forms(circuit, n, m, shares, x, y, z);
+    linear::linear_forms(circuit, n, m, shares, x, y, z);
     let first = absorb_lanes(Sponge::new(), x);
     let second = absorb_lanes(first, y);
     let all = absorb_lanes(second, z);

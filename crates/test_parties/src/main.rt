@@ -1,21 +1,20 @@
 // Prints repetition 3 of signing and of verifying for sets 2 and 5: the corrections, what the repetition gives to both hashes, and both hashes of a signature
 // that has this repetition only; then the same for a verifier to whom the first, the sixth or the last party is hidden, and for one who is given
 // a path with a changed byte. The file `stdout` is what the independent program prints for `expected parties`.
-mod cases;
-mod inputs;
-mod print;
 mod second;
 mod signing;
 mod verifying;
 
-use cases::Case;
-use cases::VALUES;
-use cases::WORK;
+use party_cases::cases;
+use party_cases::cases::Case;
+use party_cases::cases::VALUES;
+use party_cases::cases::WORK;
+use party_cases::inputs;
 use sets::LONGEST_HASH;
 ghost use mathlib.Core.Path.{_≡_};
 ghost use Prim.Native.Nat.{_≤_};
 ghost use lib.ListN.{length};
-ghost use Rattle.test_parties.specs.Laid.{Laid};
+ghost use Rattle.party_cases.specs.Laid.{Laid};
 
 // One more than the number of the last case of a set.
 const END: usize = 5;

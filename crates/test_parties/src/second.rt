@@ -1,16 +1,16 @@
 // The lines of the second hash, of the signer and of a verifier alike.
-use crate::cases::Case;
-use crate::cases::REPETITION;
-use crate::inputs;
-use crate::print;
 use group::Rep;
+use party_cases::cases::Case;
+use party_cases::cases::REPETITION;
+use party_cases::inputs;
+use party_cases::print;
 use sponge::Sponge;
 ghost use mathlib.Core.Path.{_≡_};
 ghost use Prim.Native.Nat.{_+_, _*_, _≤_, _<_};
 ghost use lib.ListN.{length};
 ghost use Rattle.forms.specs.Room.{circuitLength};
 ghost use Rattle.group.specs.Shares.{Sized, valuesLength};
-ghost use Rattle.test_parties.specs.Laid.{Laid};
+ghost use Rattle.party_cases.specs.Laid.{Laid};
 
 // The line of what the repetition gives to the second hash, and the line of this hash.
 pub fn lines(k: Case, salt: &[u8], h1: &[u8], values: &mut [u8], work: &mut [u8])

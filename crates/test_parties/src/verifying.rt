@@ -1,10 +1,10 @@
 // The lines of verifying: the hidden party's α, the first hash, and then the second.
-use crate::cases::Case;
-use crate::cases::REPETITION;
-use crate::inputs;
-use crate::print;
 use crate::second;
 use group::Rep;
+use party_cases::cases::Case;
+use party_cases::cases::REPETITION;
+use party_cases::inputs;
+use party_cases::print;
 use sets::LONGEST_HASH;
 use sets::LONGEST_SEED;
 use sets::MOST_EQUATIONS;
@@ -14,7 +14,7 @@ ghost use Prim.Native.Nat.{_*_, _≤_, _<_};
 ghost use lib.ListN.{length};
 ghost use Rattle.forms.specs.Room.{circuitLength};
 ghost use Rattle.group.specs.Shares.{Sized, valuesLength};
-ghost use Rattle.test_parties.specs.Laid.{Laid};
+ghost use Rattle.party_cases.specs.Laid.{Laid};
 
 // The lines of a verifier; none where no party is hidden.
 pub fn lines(k: Case, salt: &[u8], h1: &[u8], values: &mut [u8], work: &mut [u8])

@@ -3,7 +3,7 @@
 use mathlib.Core.Path.{_≡_}
 use mathlib.Core.Bool.{_&&_, cond}
 use mathlib.Core.List.{List}
-use Prim.Native.Nat.{ℕ, _+_, _-_, _*_, _%_}
+use Prim.Native.Nat.{ℕ, _+_, _-_, _*_, _%_, _<_}
 use lib.Dec.{leb, ltb}
 use lib.ListN.{length, getD}
 use Rattle.memory.specs.Lists.{table}
@@ -12,6 +12,10 @@ use Rattle.field.specs.Packing.{Bytes, nib}
 -- the n elements from the half byte `at` on
 unfoldable pub elementsAt : List ℕ → ℕ → ℕ → List ℕ
 elementsAt bytes at n = table n (λ k. nib bytes (at + k))
+
+-- the first i entries of `out` are the elements from the half byte `at` on
+abbrev pub ReadTo : List ℕ → ℕ → ℕ → List ℕ → Type 0
+ReadTo bytes at i out = (j : ℕ) → j < i → getD out j 0 ≡ nib bytes (at + j)
 
 -- the j-th half byte after the elements are written from the half byte `at` on
 unfoldable pub halfAfter : List ℕ → ℕ → List ℕ → ℕ → ℕ

@@ -15,15 +15,18 @@ use Rattle.sets.specs.declared.Params.{Params}
 use Rattle.forms.specs.Room.{HoldsCircuit, challengeIn, hiddenIn}
 use Rattle.forms.proofs.Room.{expanded-circuit, expanded-challenge, expanded-hidden}
 use Rattle.parties.specs.Repetition.{challenge, hiddenParty}
-use Rattle.biscuit.specs.Keys.{circuit, publicKeyOf}
-use Rattle.biscuit.specs.Signature.{extracted}
+use Rattle.biscuit.specs.Keys.{PublicKey, circuit, publicKeyOf}
+use Rattle.biscuit.specs.Signature.{Signature, extracted}
 use Rattle.biscuit.specs.Verify.{f, ε, hidden}
-use Rattle.biscuit.specs.Room.{leavesAt, challengesAt, roomEnd, Fits}
+use Rattle.biscuit.specs.Room.{leavesAt, rootsAt, challengesAt, roomEnd, Fits}
 use Rattle.biscuit.proofs.Parts.{length-first, length-first-back, take-before-put}
 use Rattle.biscuit.proofs.Repeated.{among}
-use Rattle.biscuit.proofs.Room.{mapped}
-use Rattle.verifying.specs.Turns.{circuitPart, challengesPart}
-use Rattle.verifying.proofs.Sizes.{leaves-is, challenges-size}
+use Rattle.biscuit.proofs.Room.{mapped, behind-roots}
+use Rattle.turns.specs.Turns.{circuitPart, challengesPart, Expanded}
+use Rattle.turns.proofs.Sizes.{leaves-is}
+
+challenges-size : (P : Params) → roomEnd P - challengesAt P ≡ P .tau * packedLength (P .m)
+challenges-size P = let m = mapped P in omega arith
 
 -- ---- two parts of work written one after the other
 
@@ -66,6 +69,16 @@ module _ (P : Params) (w : List ℕ) (enough : roomEnd P ≤ length w) (end from
           ap (λ (l : List ℕ). take (roomEnd P - challengesAt P) (drop (challengesAt P) l)) as-put
           ∙ ap (λ (n : ℕ). take n (drop (challengesAt P) (put (last ++ drop (end - 0) (drop 0 w)) (challengesAt P) more))) (sym size)
           ∙ mid-put (last ++ drop (end - 0) (drop 0 w)) (challengesAt P) more fits
+
+-- ---- what was expanded stays
+
+pub still-expanded : (P : Params) (key : PublicKey) (σ : Signature) (parties w w′ : List ℕ) → Expanded P key σ parties w → circuitPart P w′ ≡ circuitPart P w → drop (rootsAt P) w′ ≡ drop (rootsAt P) w
+    → Expanded P key σ parties w′
+still-expanded P key σ parties w w′ x c h = record {
+  circuit = subst (HoldsCircuit (P .n) (P .m) (f P key)) (sym c) (x .circuit);
+  challenge = λ e a b. ap (λ (l : List ℕ). challengeIn (P .m) (take (roomEnd P - challengesAt P) l) e) (behind-roots P w w′ h) ∙ x .challenge e a b;
+  hidden = x .hidden;
+}
 
 -- ---- what the tapes hold
 

@@ -1,11 +1,11 @@
 -- How far the two hashes are: before the first repetition, after one more, and that their bytes are what algorithm 13 compares.
 -- Assumes nothing.
-use mathlib.Core.Path.{_≡_, sym, ap, ap₂, _∙_}
+use mathlib.Core.Path.{_≡_, refl, sym, ap, ap₂, _∙_}
 use mathlib.Core.Bool.{Bool, true, false, _&&_}
 use mathlib.Core.List.{List, _∷_, _++_, append-assoc, append-nil}
 use Prim.Native.Nat.{ℕ, _+_, _-_, _*_, _≤_}
 use native.Mathlib.Omega.{arith}
-use lib.ListN.{length, take, drop}
+use lib.ListN.{length, take, drop, length-take}
 use Rattle.memory.specs.Lists.{same}
 use Rattle.memory.proofs.Xors.{length-part}
 use Rattle.sponge.specs.declared.Sponge.{Sponge}
@@ -20,9 +20,10 @@ use Rattle.biscuit.specs.Signature.{Signature, repeated, extracted}
 use Rattle.biscuit.specs.Verify.{σ₁, σ₂, h₁', h₂', firstAgrees, secondAgrees, valid}
 use Rattle.biscuit.specs.Room.{Fits}
 use Rattle.biscuit.proofs.Repeated.{repeated-more}
-use Rattle.verifying.specs.declared.Both.{Both}
-use Rattle.verifying.specs.Turns.{firstOf, secondOf, TurnHashed, Hashed}
-use Rattle.verifying.proofs.Sizes.{head-fits}
+use Rattle.turns.specs.declared.Both.{Both}
+use Rattle.turns.specs.Turns.{firstOf, secondOf, TurnHashed, TwoHashed}
+use Rattle.turns.proofs.Sizes.{head-fits}
+use Rattle.verifying.specs.Hashed.{Hashed}
 
 -- ---- the fields of the hashes grow at their ends
 
@@ -71,6 +72,12 @@ module _ (P : Params) (key : PublicKey) where
           ∙ ap (absorbed fresh) (second-more (σ .salt) (σ .h₁) (repeated e (secondOf P key σ)) (secondOf P key σ (e + 1)) ∙ ap (secondFields (σ .salt) (σ .h₁)) (repeated-more e (secondOf P key σ)));
     }
 
+    -- two more
+    pub hashed-two : (e : ℕ) (before after : Both) → Hashed P key σ message e before → TwoHashed P key σ (e + 1) before after → Hashed P key σ message (e + 1 + 1) after
+    hashed-two e before after h t =
+        let between : Both = record { first = absorbed (before .first) (firstOf P key σ (e + 1)); second = absorbed (before .second) (secondOf P key σ (e + 1)) } in
+        hashed-more (e + 1) between after (hashed-more e before between h (record { first = refl; second = refl })) (record { first = t .first; second = t .second })
+
     -- ---- what they give at the end
 
     pub first-given : (both : Both) → Hashed P key σ message (P .tau) both → given (finished (both .first)) (2 * S P) ≡ h₁' P key σ message
@@ -84,6 +91,9 @@ module _ (P : Params) (key : PublicKey) where
         ap (λ (s : Sponge). given (finished s) (2 * S P)) (h .second) ∙ given-second (S P) (σ .salt) (σ .h₁) (repeated (P .tau) (secondOf P key σ))
 
 -- ---- the comparisons
+
+pub hash-short : (P : Params) → Fits P → (s : ℕ) → s ≡ S P → (x : List ℕ) (k : ℕ) → length (take (k + 2 * s - k) (drop k x)) ≤ 64
+hash-short P f s is x k = let a = f .seed in let l = length-take (k + 2 * s - k) (drop k x) in omega arith
 
 compared : (P : Params) (x : List ℕ) (s k : ℕ) (hash : Sponge) → s ≡ S P → k + 2 * S P ≤ length x
     → same (take (k + 2 * s - k) (drop k x)) (given (finished hash) (length (take (k + 2 * s - k) (drop k x))))

@@ -1,7 +1,4 @@
+pub mod Counting
 pub mod Expanding
 pub mod Hashing
-pub mod Leaves
 pub mod OneOutcome
-pub mod Reading
-pub mod Sizes
-pub mod Turning

@@ -24,11 +24,11 @@ use Rattle.sets.specs.declared.Params.{Params}
 use Rattle.forms.specs.Sampling.{tapeBytes, sampleElements}
 use Rattle.forms.proofs.Sampling.{sampleElements-nib}
 use Rattle.parties.specs.Parties.{Share, numbered, parties, secret, mask, helper}
-use Rattle.parties.specs.Repetition.{rawShare, raws, deltaS, deltaC}
+use Rattle.parties.specs.Repetition.{tapeLength, rawShare, raws, deltaS, deltaC}
 use Rattle.parties.proofs.Numbered.{length-parties, getD-parties}
 use Rattle.parties.proofs.Growing.{total-take-suc}
 use Rattle.parties.proofs.Corrections.{length-deltaS, length-deltaC}
-use Rattle.views.specs.Views.{tapes, tapeSum, tapeLength, correctionS, correctionC}
+use Rattle.views.specs.Views.{tapes, tapeSum, correctionS, correctionC}
 
 -- ---- the loop over the parties
 

@@ -22,10 +22,6 @@ tapes salt e size seeds = parties (λ i seed. expandTape salt e i seed size) see
 unfoldable pub tapeSum : List ℕ → ℕ → ℕ → List (List ℕ) → List ℕ
 tapeSum salt e size seeds = replicate size 0 ⊕ total (tapes salt e size seeds)
 
--- algorithm 12, lines 10 to 12: a tape gives n elements, then m, then m, each from a whole byte on
-unfoldable pub tapeLength : ℕ → ℕ → ℕ
-tapeLength n m = packedLength n + packedLength m + packedLength m
-
 -- algorithm 12, line 14, with the secret's shares added up in the first elements of `sum`
 unfoldable pub correctionS : ℕ → List ℕ → List ℕ → List ℕ
 correctionS n s sum = s ⊕ unpack n sum

@@ -1,6 +1,8 @@
 // Phase 1 of signing, algorithm 12 lines 6 to 22, and what verifying needs of it: the commitments of all parties are absorbed into the first hash, the
 // tapes are added up byte by byte, and the corrections are worked out of the sums and absorbed. One loop serves signing and verifying: party `hidden` has
 // a given commitment, and there is none where `hidden` is 0. No secret chooses a branch; the product alone reads its table at a place that its operands give.
+use parties::LONGEST_TAPE;
+use sets::LONGEST_HASH;
 use sets::Params;
 use sponge::Sponge;
 ghost use mathlib.Core.Path.{_≡_};
@@ -14,16 +16,10 @@ ghost use Rattle.sponge.specs.Steps.{absorbed};
 ghost use Rattle.sets.specs.Sets.{S};
 ghost use Rattle.hashes.specs.Hashes.{commit, expandTape};
 ghost use Rattle.parties.specs.Parties.{parties};
-ghost use Rattle.parties.specs.Repetition.{givenAt};
-ghost use Rattle.views.specs.Views.{tapeSum, tapeLength, correctionS, correctionC, FirstPhase};
+ghost use Rattle.parties.specs.Repetition.{givenAt, tapeLength};
+ghost use Rattle.views.specs.Views.{tapeSum, correctionS, correctionC, FirstPhase};
 
-// The bytes of the largest commitment.
-const COMMITMENT: usize = 64;
-
-// The bytes of a tape at the largest set: 118 elements, then twice 121.
-const TAPE: usize = 181;
-
-// The bytes of the longest packed correction.
+// The bytes of 128 packed elements, more than a correction has.
 const PACKED: usize = 64;
 
 // One repetition of signing: gives the hash after all commitments and both corrections, and fills `ds` and `dc` with the corrections.
@@ -99,7 +95,7 @@ fn commit_seed(hash: Sponge, salt: &[u8], e: usize, i: usize, seed: &[u8]) -> Sp
     requires { ⌜ (length (now salt) ≤ 64) × (length (now seed) ≤ 32) ⌝ }
     ensures { λ r. ⌜ r ≡ absorbed hash (commit (length (now (seed .entry))) (now (salt .entry)) e i (now (seed .entry))) ⌝ }
 {
-    let mut room = [0u8; COMMITMENT];
+    let mut room = [0u8; LONGEST_HASH];
     commit_in(hash, salt, e, i, seed, &mut room)
 }
 
@@ -129,7 +125,7 @@ fn correct(
     ensures secret { λ r. ⌜ now (ds .exit) ≡ correctionS (length (now (s .entry))) (now (s .entry)) (tapeSum (now (salt .entry)) e (tapeLength (length (now (s .entry))) (length (now (y .entry)))) (pieces size count (now (leaves .entry)))) ⌝ }
     ensures helper { λ r. ⌜ now (dc .exit) ≡ correctionC (length (now (s .entry))) (length (now (y .entry))) (now (y .entry)) (tapeSum (now (salt .entry)) e (tapeLength (length (now (s .entry))) (length (now (y .entry)))) (pieces size count (now (leaves .entry)))) ⌝ }
 {
-    let mut room = [0u8; TAPE];
+    let mut room = [0u8; LONGEST_TAPE];
     correct_in(salt, e, leaves, size, count, s, y, &mut room, ds, dc);
 }
 
@@ -190,7 +186,7 @@ fn add_tape(salt: &[u8], e: usize, leaves: &[u8], size: usize, i: usize, sums: &
     requires { ⌜ (length (now salt) ≤ 64) × (size ≤ 32) × (i * size + size ≤ length (now leaves)) × (i + 1 < 2 ^ 64) × (length (now sums) ≤ 181) ⌝ }
     ensures { λ r. ⌜ now (sums .exit) ≡ now (sums .entry) ⊕ expandTape (now (salt .entry)) e (i + 1) (take size (drop (i * size) (now (leaves .entry)))) (length (now (sums .entry))) ⌝ }
 {
-    let mut room = [0u8; TAPE];
+    let mut room = [0u8; LONGEST_TAPE];
     let at = i * size;
     let end = at + size;
     add_tape_in(salt, e, i + 1, &leaves[at..end], &mut room, sums);

@@ -4,7 +4,7 @@ use mathlib.Core.Path.{refl, sym, _∙_}
 use native.Mathlib.Omega.{arith}
 use Rattle.forms.specs.Room.{circuitLength}
 use Rattle.answers.specs.Passes.{circuitOf, leavesOf, roomAt}
-use Rattle.answers.proofs.Values.{vs-of, all-answers}
+use Rattle.answers.proofs.Values.{sums-passed, vs-of, all-answers}
 use Rattle.answers.proofs.Turning.{zeros-sized, zeros-part, lent-same, lent-sized, lent-fits, folded-same}
 use Rattle.answers.proofs.Work.{part-same, room-sized, room-held}
 use borrow.Author.Needs.{needs}
@@ -112,7 +112,7 @@ returns c =
       (λ P h en em ec.
           all-answers r (circuitOf r w) (s .args .salt .now) (leavesOf r w) v (s .pre .3) (s .pre .1) _ _ _ (f .ensures .0)
           (c .before .finish .ensures _ _ _
-          (λ alpha given d. vs-of r (circuitOf r w) (s .args .salt .now) (leavesOf r w) v (s .pre .3) (s .pre .1) alpha given _ _ _ _ (f .ensures .1 .0)
+          (λ alpha given d. vs-of r (circuitOf r w) (s .args .salt .now) (leavesOf r w) v (s .pre .3) (s .pre .1) alpha given _ _ _ (sums-passed r (circuitOf r w) (s .args .salt .now) (leavesOf r w) v (s .pre .3) (s .pre .1) _ _ _ _ (f .ensures .1 .0))
           (folded-same _ _ _ _ _ _ _ _ _ _ refl (lent-same 121 (s .args .rep .m) (f .last .1 .1 .1 .1 .0) (s .pre .0 .equations) (f .kept .1 .1 .1 .1 .0)) (lent-same 121 (s .args .rep .m) (f .last .1 .1 .1 .1 .1 .0) (s .pre .0 .equations) (f .kept .1 .1 .1 .1 .1 .0)) (lent-same 121 (s .args .rep .m) (f .last .1 .1 .1 .1 .1 .1 .0) (s .pre .0 .equations) (f .kept .1 .1 .1 .1 .1 .1 .0)) d))
           (room-held r (f .last .1 .1 .1 .1 .1 .1 .1 .0) _ _ (c .before .before .before .before .before .before .before .before .before .before .before .before .before .before .before .before .before .before .before .room-at .ensures) (sym (f .kept .1 .1 .1 .1 .1 .1 .1 .0)) _ _ (f .ensures .1 .0 .kept))) P h en em ec),
       part-same (f .last .1 .1 .1 .1 .1 .1 .1 .0) w 0 (circuitLength (r .n) (r .m)) (roomAt r) (omega arith) (f .ensures .1 .1),

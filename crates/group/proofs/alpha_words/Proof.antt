@@ -1,8 +1,7 @@
 -- `group::alpha_words` meets its contract. Multiplied, cleared in the hidden lane, and the given α put in there.
 -- Assumes nothing.
-use mathlib.Core.Path.{_≡_, refl, sym, _∙_}
-use Prim.Native.Nat.{_+_, _*_, _/_, _%_}
-use native.Mathlib.Omega.{arith}
+use mathlib.Core.Path.{refl}
+use Prim.Native.Nat.{_+_}
 use Rattle.marks.proofs.Marks.{mark-flags}
 use Rattle.group.proofs.Shares.{elements-part}
 use Rattle.group.proofs.Answers.{alpha-words}

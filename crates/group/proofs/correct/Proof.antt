@@ -1,8 +1,7 @@
 -- `group::correct` meets its contract. The corrections are added in the lane of party 1, first to s and then to c.
 -- Assumes nothing.
-use mathlib.Core.Path.{_≡_, refl, sym, _∙_}
-use Prim.Native.Nat.{_+_, _*_, _/_, _%_}
-use native.Mathlib.Omega.{arith}
+use mathlib.Core.Path.{refl}
+use Prim.Native.Nat.{_+_}
 use Rattle.marks.proofs.Marks.{mark-flags}
 use Rattle.group.proofs.Shares.{elements-part, corrected-shares, helper-place}
 use borrow.Author.Needs.{needs}

@@ -1,6 +1,5 @@
 -- `group::fill` meets its contract. What the tape gives is laid over the start of the bytes.
 -- Assumes nothing.
-use mathlib.Core.Path.{_≡_, refl, sym, _∙_}
 use native.Mathlib.Omega.{arith}
 use Rattle.group.proofs.Shares.{filled-tape, tape-size, tape-room}
 use borrow.Author.Needs.{needs}

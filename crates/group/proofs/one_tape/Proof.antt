@@ -1,7 +1,6 @@
 -- `group::one_tape` meets its contract. The tape stands over the start of zeros, and past its end both read as 0.
 -- Assumes nothing.
-use mathlib.Core.Path.{_≡_, refl, sym, _∙_}
-use native.Mathlib.Omega.{arith}
+use mathlib.Core.Path.{refl}
 use Rattle.group.proofs.Shares.{tape-fits}
 use Rattle.group.proofs.Tapes.{tape-stored}
 use borrow.Author.Needs.{needs}

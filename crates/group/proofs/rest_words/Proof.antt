@@ -1,8 +1,7 @@
 -- `group::rest_words` meets its contract. The target added but at party 1, then multiplied, and cleared in the hidden lane.
 -- Assumes nothing.
-use mathlib.Core.Path.{_≡_, refl, sym, _∙_}
-use Prim.Native.Nat.{_+_, _*_, _/_, _%_}
-use native.Mathlib.Omega.{arith}
+use mathlib.Core.Path.{refl}
+use Prim.Native.Nat.{_+_}
 use Rattle.marks.proofs.Marks.{mark-flags, others-flags}
 use Rattle.group.proofs.Shares.{elements-part}
 use Rattle.group.proofs.Answers.{rest-words}

@@ -1,11 +1,10 @@
 -- `group::scatter` meets its contract. The invariant: the first w words are stored, and the words of other lanes are as they were.
 -- Assumes nothing.
-use mathlib.Core.Path.{_≡_, refl, sym, _∙_}
+use mathlib.Core.Path.{_≡_, refl}
 use native.Mathlib.Omega.{arith}
 use Prim.Native.Nat.{_-_, _≤_}
 use lib.ListN.{length, length-set}
 use Rattle.group.proofs.Tapes.{StoredTo, stored-none, stored-more, stored-all}
-use borrow.Author.Needs.{needs}
 use Rattle.group.proofs.scatter.Statement.{statement}
 use Rattle.group.proofs.scatter.Tie as tie
 

@@ -1,16 +1,12 @@
 -- `group::sixteen_tapes` meets its contract. The invariant: the tapes of the lanes below q are stored.
 -- Assumes nothing.
-use mathlib.Core.Path.{_≡_, refl, sym, _∙_}
+use mathlib.Core.Path.{_≡_, refl, _∙_}
 use native.Mathlib.Omega.{arith}
-use mathlib.Core.List.{List}
-use Prim.Native.Nat.{ℕ, suc, _+_, _-_, _*_, _≤_}
-use lib.ListN.{length, take, drop}
+use Prim.Native.Nat.{_+_, _-_, _*_, _≤_}
+use lib.ListN.{length, take}
 use Rattle.memory.proofs.Xors.{length-sized}
-use Rattle.sponge.specs.Sponge.{shake256}
-use Rattle.hashes.specs.Hashes.{tapeFields}
 use Rattle.group.specs.Shares.{tapesOf}
 use Rattle.group.proofs.Tapes.{TapesTo, tapes-none, tapes-more, tapes-all, tape-of-party, seed-room}
-use borrow.Author.Needs.{needs}
 use Rattle.group.proofs.sixteen_tapes.Statement.{statement}
 use Rattle.group.proofs.sixteen_tapes.Tie as tie
 

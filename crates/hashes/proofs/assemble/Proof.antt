@@ -1,8 +1,8 @@
--- `hashes::assemble` meets its contract: the fields lie one after another, as the law `take-assembled` says.
+-- `hashes::assemble` meets its contract: the fields lie one after another, as the law `assembled` says.
 -- Assumes nothing.
 use native.Mathlib.Omega.{arith}
 use lib.ListN.{length-set}
-use Rattle.hashes.proofs.Laws.{take-assembled}
+use Rattle.hashes.proofs.Laws.{assembled}
 use borrow.Author.Needs.{needs}
 use Rattle.hashes.proofs.assemble.Statement.{statement}
 use Rattle.hashes.proofs.assemble.Tie as tie
@@ -39,7 +39,7 @@ returns c =
     let u = c .before .before .section3 .ensures in
     let k = c .before .before .before .before .before .before .before .before .before .before .section .kept .1 .1 .0 in (
       omega (arith, length-set (a .block .now) 0 (a .byte)),
-      take-assembled (a .block .now) _ _ _ _ _ _ _ _ _ _ (omega arith) (s .0) (s .1) (t .0) (t .1) (u .0) (u .1),
+      assembled (a .block .now) _ _ _ _ _ _ _ _ _ _ (omega arith) (s .0) (s .1) (t .0) (t .1) (u .0) (u .1),
     )
 
 pub assemble-spec : {M : Type 1} → statement M

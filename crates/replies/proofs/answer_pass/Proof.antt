@@ -1,9 +1,10 @@
 -- `replies::answer_pass` meets its contract. The invariant: for every signer that has what is lent, the second hash has absorbed `done` repetitions.
+-- The repetitions are taken two at a time, and one that is left over by itself.
 -- Assumes nothing.
 use mathlib.Core.Path.{_≡_, refl, _∙_}
 use native.Mathlib.Omega.{arith}
 use mathlib.Core.List.{List}
-use Prim.Native.Nat.{ℕ, _-_, _≤_}
+use Prim.Native.Nat.{ℕ, _+_, _-_, _≤_}
 use lib.ListN.{length, drop}
 use Rattle.answers.proofs.Absorbing.{Absorbing, absorbing-none}
 use Rattle.biscuit.specs.Signature.{repeated}
@@ -12,7 +13,7 @@ use Rattle.biscuit.specs.Sign.{Signer}
 use Rattle.passes.specs.Passes.{HoldsRoots, Kept}
 use Rattle.passes.proofs.Committing.{kept-none, kept-more, roots-kept}
 use Rattle.replies.specs.Replies.{Challenged}
-use Rattle.replies.proofs.Answering.{answersUpTo, answering-more, answered-all, challenged-kept}
+use Rattle.replies.proofs.Answering.{answersUpTo, answering-more, answering-two, answered-all, challenged-kept}
 use Rattle.replies.proofs.answer_pass.Statement.{statement}
 use Rattle.replies.proofs.answer_pass.Tie as tie
 
@@ -28,11 +29,14 @@ loop-holds : tie.Need-loop-holds Inv-loop μ-loop
 unfolding repeated
 loop-holds c = (omega arith, refl, kept-none _ _, λ signer msg h k. absorbing-none _)
 
-add-answer-turn : tie.Need-add-answer-turn Inv-loop μ-loop
-add-answer-turn c = let b = c .before .before .before .before .before .before .pre .0 .repetitions in omega arith
+add-loop : tie.Need-add-loop Inv-loop μ-loop
+add-loop c = let i = c .loop .inv .0 in let b = c .before .before .before .before .before .pre .0 .repetitions in omega arith
 
-answer-turn-requires : tie.Need-answer-turn-requires Inv-loop μ-loop
-answer-turn-requires c κs =
+add-answer-pair : tie.Need-add-answer-pair Inv-loop μ-loop
+add-answer-pair c = let i = c .before .loop .inv .0 in let b = c .before .before .before .before .before .before .pre .0 .repetitions in omega arith
+
+answer-pair-requires : tie.Need-answer-pair-requires Inv-loop μ-loop
+answer-pair-requires c κs =
     let h = c .before .before .before .before .before .before .before .pre in
     let i = c .before .before .loop .inv in
     let t = c .before .loop-test .taken in
@@ -50,27 +54,54 @@ loop-again c =
     let l = c .before .before .before .before .before .loop in
     let i = l .inv in
     let t = c .before .before .before .before .loop-test .taken in
-    let u = c .before .before .answer-turn in
+    let u = c .before .before .answer-pair in
     let w = i .1 ∙ s .pre .5 in (
       omega arith,
       u .kept .1 .1 .1 .1 .1 .1 .0 ∙ i .1,
       kept-more _ _ _ _ (i .2) (u .ensures .1),
-      λ signer msg h k. answering-more (s .args .p) (s .pre .0) signer msg (s .args .salt .now) (s .args .secret .now) (s .args .packing .now) (l .work) (l .done) _ _ _ (s .pre .2) w (challenged-kept _ signer msg _ _ _ _ _ (i .2) h) (roots-kept _ signer _ _ (i .2) k) t (i .3 signer msg h k) (u .ensures .0),
+      λ signer msg h k. answering-two (s .args .p) (s .pre .0) signer msg (s .args .salt .now) (s .args .secret .now) (s .args .packing .now) (l .work) (s .pre .2) w (challenged-kept _ signer msg _ _ _ _ _ (i .2) h) (roots-kept _ signer _ _ (i .2) k) (l .done) _ _ _ t (i .3 signer msg h k) (u .ensures .0),
     )
 
+add-answer-turn : tie.Need-add-answer-turn Inv-loop μ-loop
+add-answer-turn c = let i = c .before .before .loop .inv .0 in let b = c .before .before .before .before .before .before .before .pre .0 .repetitions in omega arith
+
+answer-turn-requires : tie.Need-answer-turn-requires Inv-loop μ-loop
+answer-turn-requires c κs =
+    let h = c .before .before .before .before .before .before .before .before .pre in
+    let i = c .before .before .before .loop .inv in
+    let t = c .before .if1 .taken in
+    (h .0, omega arith, omega arith, h .1, h .2, h .3, h .4, i .1 ∙ h .5)
+
 same-length : tie.Need-same-length Inv-loop μ-loop
-same-length c = c .before .loop .inv .1
+same-length c = c .before .before .answer-turn .kept .1 .1 .1 .1 .1 .1 .0 ∙ c .before .before .before .before .before .before .loop .inv .1
 
 returns : tie.Need-returns Inv-loop μ-loop
 returns c =
-    let s = c .before .before .before .before .before .before in
-    let l = c .before .loop in
+    let s = c .before .before .before .before .before .before .before .before .before .before .before in
+    let l = c .before .before .before .before .before .before .loop in
+    let i = l .inv in
+    let t = c .before .before .before .before .if1 .taken in
+    let b = c .before .before .before .before .before .loop-test .left in
+    let e : l .done + 1 ≡ s .args .p .tau = omega arith in
+    let u = c .before .before .answer-turn in
+    let w = i .1 ∙ s .pre .5 in (
+      λ signer msg h k. answered-all _ signer msg _ _ _ e (s .pre .0 .«repeated»)
+          (answering-more (s .args .p) (s .pre .0) signer msg (s .args .salt .now) (s .args .secret .now) (s .args .packing .now) (l .work) (s .pre .2) w (challenged-kept _ signer msg _ _ _ _ _ (i .2) h) (roots-kept _ signer _ _ (i .2) k) (l .done) _ _ _ t (i .3 signer msg h k) (u .ensures .0)),
+      kept-more _ _ _ _ (i .2) (u .ensures .1),
+    )
+
+same-length-2 : tie.Need-same-length-2 Inv-loop μ-loop
+same-length-2 c = c .before .before .loop .inv .1
+
+returns-2 : tie.Need-returns-2 Inv-loop μ-loop
+returns-2 c =
+    let s = c .before .before .before .before .before .before .before in
+    let l = c .before .before .loop in
     let i = l .inv in
     let b = i .0 in
-    let t = c .loop-test .left in
+    let t = c .if1 .left in
     let e : l .done ≡ s .args .p .tau = omega arith in
-    let o = s .pre .0 .«repeated» in
-    (λ signer msg h k. answered-all _ signer msg _ _ _ e o (i .3 signer msg h k), i .2)
+    (λ signer msg h k. answered-all _ signer msg _ _ _ e (s .pre .0 .«repeated») (i .3 signer msg h k), i .2)
 
 pub answer-pass-spec : {M : Type 1} → statement M
 answer-pass-spec =
@@ -79,10 +110,15 @@ answer-pass-spec =
     Inv-loop
     μ-loop
     loop-holds
-    add-answer-turn
-    answer-turn-requires
+    add-loop
+    add-answer-pair
+    answer-pair-requires
     add-done
     loop-less
     loop-again
+    add-answer-turn
+    answer-turn-requires
     same-length
-    returns)
+    returns
+    same-length-2
+    returns-2)

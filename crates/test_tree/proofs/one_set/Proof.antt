@@ -3,7 +3,7 @@
 use Prim.Native.Nat.{_^_}
 use native.Mathlib.Omega.{arith}
 use borrow.Author.Needs.{needs}
-use Rattle.test_tree.proofs.Sizes.{seeds}
+use Rattle.lines.proofs.Sizes.{seeds}
 use Rattle.test_tree.proofs.one_set.Statement.{statement}
 use Rattle.test_tree.proofs.one_set.Tie as tie
 

@@ -4,8 +4,8 @@ use native.Mathlib.Omega.{arith}
 use mathlib.Core.Path.{refl}
 use Prim.Native.Nat.{_+_, _*_, _/_}
 use Rattle.sets.specs.Sets.{S}
-use Rattle.verifying.proofs.Sizes.{head-fits, hash-short}
-use Rattle.verifying.proofs.Hashing.{first-compared, second-compared, first-agrees, first-differs}
+use Rattle.turns.proofs.Sizes.{head-fits}
+use Rattle.verifying.proofs.Hashing.{hash-short, first-compared, second-compared, first-agrees, first-differs}
 use borrow.Author.Needs.{needs}
 use Rattle.verifying.proofs.agree.Statement.{statement}
 use Rattle.verifying.proofs.agree.Tie as tie

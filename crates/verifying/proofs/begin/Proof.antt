@@ -4,7 +4,7 @@ use mathlib.Core.Path.{refl}
 use Prim.Native.Nat.{_/_}
 use native.Mathlib.Omega.{arith}
 use Rattle.sets.specs.Sets.{S}
-use Rattle.verifying.proofs.Sizes.{head-fits}
+use Rattle.turns.proofs.Sizes.{head-fits}
 use Rattle.verifying.proofs.Hashing.{first-begun, second-begun}
 use borrow.Author.Needs.{needs}
 use Rattle.verifying.proofs.begin.Statement.{statement}

@@ -5,7 +5,7 @@ use Prim.Native.Nat.{_/_}
 use native.Mathlib.Omega.{arith}
 use Rattle.sets.specs.Sets.{S}
 use Rattle.biscuit.proofs.Room.{mapped}
-use Rattle.verifying.proofs.Sizes.{head-fits, seed-fits}
+use Rattle.turns.proofs.Sizes.{head-fits, seed-fits}
 use Rattle.verifying.proofs.Expanding.{first-length, second-length, circuit-there, challenges-there, holds-circuit, holds-challenge, holds-hidden}
 use borrow.Author.Needs.{needs}
 use Rattle.verifying.proofs.expand.Statement.{statement}

@@ -4,7 +4,8 @@ use mathlib.Core.Path.{ap, _∙_}
 use native.Mathlib.Omega.{arith}
 use lib.ListN.{length}
 use Rattle.memory.specs.Sections.{pieces}
-use Rattle.views.specs.Views.{tapeLength, correctionS, correctionC}
+use Rattle.parties.specs.Repetition.{tapeLength}
+use Rattle.views.specs.Views.{correctionS, correctionC}
 use Rattle.views.proofs.Sums.{summed-start}
 use borrow.Author.Needs.{needs}
 use Rattle.views.proofs.correct_in.Statement.{statement}

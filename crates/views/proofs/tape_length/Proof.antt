@@ -1,7 +1,7 @@
 -- `views::tape_length` meets its contract. Assumes nothing.
 use native.Mathlib.Omega.{arith}
 use Rattle.field.specs.Packing.{packedLength}
-use Rattle.views.specs.Views.{tapeLength}
+use Rattle.parties.specs.Repetition.{tapeLength}
 use borrow.Author.Needs.{needs}
 use Rattle.views.proofs.tape_length.Statement.{statement}
 use Rattle.views.proofs.tape_length.Tie as tie

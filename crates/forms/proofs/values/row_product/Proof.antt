@@ -6,7 +6,7 @@ use native.Mathlib.Omega.{arith}
 use lib.ListN.{length}
 use Rattle.field.specs.Packing.{nib}
 use Rattle.field.specs.Vectors.{_!_}
-use Rattle.forms.specs.Rows.{sumOf}
+use Rattle.field.specs.Sums.{sumOf}
 use Rattle.forms.proofs.Evaluated.{sum-more, row-dot}
 use borrow.Author.Needs.{needs}
 use Rattle.forms.proofs.values.row_product.Statement.{statement}

@@ -4,7 +4,7 @@ use mathlib.Core.Path.{_≡_, refl}
 use Prim.Native.Nat.{ℕ, _-_, _≤_, _<_}
 use native.Mathlib.Omega.{arith}
 use lib.ListN.{length, getD, length-set}
-use Rattle.forms.proofs.Added.{entry-more}
+use Rattle.memory.proofs.Entries.{entry-more}
 use Rattle.single.specs.Masks.{MaskOf}
 use borrow.Author.Needs.{needs}
 use Rattle.single.proofs.masks.four.Statement.{statement}

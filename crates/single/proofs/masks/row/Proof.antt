@@ -4,7 +4,7 @@ use mathlib.Core.Path.{_≡_, _∙_, ap}
 use Prim.Native.Nat.{ℕ, _+_, _*_, _-_, _≤_}
 use native.Mathlib.Omega.{arith}
 use Rattle.field.specs.Packing.{nib}
-use Rattle.forms.specs.Rows.{sumOf}
+use Rattle.field.specs.Sums.{sumOf}
 use Rattle.single.specs.Masks.{MasksOf}
 use Rattle.single.proofs.Weighing.{weighed, weighed-none, row-more, lanes-weighed}
 use borrow.Author.Needs.{needs}

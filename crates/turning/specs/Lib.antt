@@ -1,0 +1,3 @@
+pub mod Parties
+pub mod Stages
+pub mod Turns

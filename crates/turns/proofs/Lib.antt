@@ -1,0 +1,6 @@
+pub mod Answering
+pub mod Leaves
+pub mod OneOutcome
+pub mod Reading
+pub mod Sizes
+pub mod Turning

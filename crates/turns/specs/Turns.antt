@@ -1,0 +1,71 @@
+-- What the steps of a repetition of verifying promise each other (algorithm 13 of the submission): what was expanded before, what stands ready for one repetition, and what it gives to the two hashes.
+-- Assumes nothing.
+use mathlib.Core.List.{List, _++_, flatten}
+use mathlib.Core.Path.{_≡_}
+use Prim.Native.Nat.{ℕ, _+_, _-_, _≤_}
+use lib.ListN.{take, drop, replicate}
+use Rattle.sponge.specs.Steps.{absorbed}
+use Rattle.sets.specs.Sets.{S}
+use Rattle.sets.specs.declared.Params.{Params}
+use Rattle.tree.specs.Tree.{filled}
+use Rattle.forms.specs.Room.{HoldsCircuit, challengeIn, hiddenIn}
+use Rattle.parties.specs.Repetition.{first, second}
+use Rattle.group.specs.declared.Rep.{Rep}
+use Rattle.biscuit.specs.Keys.{PublicKey}
+use Rattle.biscuit.specs.Signature.{Signature}
+use Rattle.biscuit.specs.Verify as verify
+use Rattle.biscuit.specs.Room.{groups, leavesAt, roomAt, challengesAt, roomEnd}
+use Rattle.turns.specs.declared.Both.{Both}
+
+-- ---- the numbers of a repetition
+
+-- of repetition e, with a party left out
+abbrev pub repOf : Params → ℕ → ℕ → Rep
+repOf P e party = record { s = S P; n = P .n; m = P .m; e = e; hidden = party; groups = groups P }
+
+-- ---- parts of work
+
+abbrev pub circuitPart : Params → List ℕ → List ℕ
+circuitPart P work = take (leavesAt P) work
+
+abbrev pub leavesPart : Params → List ℕ → List ℕ
+leavesPart P work = take (roomAt P - leavesAt P) (drop (leavesAt P) work)
+
+abbrev pub challengesPart : Params → List ℕ → List ℕ
+challengesPart P work = take (roomEnd P - challengesAt P) (drop (challengesAt P) work)
+
+module _ (P : Params) (key : PublicKey) (σ : Signature) where
+  -- ---- once for all repetitions
+
+  -- lines 3, 5 and 6: the circuit and the challenges stand in work, the hidden parties in a list of their own
+  pub record Expanded (parties work : List ℕ) : Type 0 where
+    pub circuit : HoldsCircuit (P .n) (P .m) (verify.f P key) (circuitPart P work)
+    pub challenge : (e : ℕ) → 1 ≤ e → e ≤ P .tau → challengeIn (P .m) (challengesPart P work) e ≡ verify.ε P key σ e
+    pub hidden : (e : ℕ) → 1 ≤ e → e ≤ P .tau → hiddenIn (P .l) parties e ≡ verify.hidden P key σ e
+
+  -- ---- for one repetition
+
+  -- Δs ‖ Δc ‖ challenge ‖ t ‖ α, an element to a byte
+  unfoldable pub valuesOf : ℕ → List ℕ
+  valuesOf e = (σ .opening e .Δs ++ σ .opening e .Δc) ++ (verify.ε P key σ e ++ (key .t ++ σ .opening e .α))
+
+  -- line 10: the seeds of the other parties, each in its place, and zeros in the hidden party's
+  unfoldable pub leaves : ℕ → List ℕ
+  leaves e = flatten (filled (replicate (S P) 0) (verify.seeds P key σ e))
+
+  -- lines 32 and 34: what a repetition gives to the two hashes
+  unfoldable pub firstOf : ℕ → List ℕ
+  firstOf e = first (verify.coms P key σ e) (σ .opening e .Δs) (σ .opening e .Δc)
+
+  unfoldable pub secondOf : ℕ → List ℕ
+  secondOf e = second (verify.αs P key σ e) (verify.allV P key σ e)
+
+  -- one repetition more
+  pub record TurnHashed (e : ℕ) (before after : Both) : Type 0 where
+    pub first : after .first ≡ absorbed (before .first) (firstOf e)
+    pub second : after .second ≡ absorbed (before .second) (secondOf e)
+
+  -- two repetitions more, e and e + 1
+  pub record TwoHashed (e : ℕ) (before after : Both) : Type 0 where
+    pub first : after .first ≡ absorbed (absorbed (before .first) (firstOf e)) (firstOf (e + 1))
+    pub second : after .second ≡ absorbed (absorbed (before .second) (secondOf e)) (secondOf (e + 1))
