@@ -1,6 +1,6 @@
 /*
  * The signing desk for programs in C and C++: the calls of the proved static library libdesk.a, what each of them promises,
- * the sizes of the six sets, and the words of each answer.
+ * the sizes of the six sets, and the words of each answer. It wants C99 or C++.
  *
  * What holds for every call:
  *   - A part is lent as a pointer and its number of bytes. An output or work must not overlap any other part that is lent to the
@@ -13,8 +13,8 @@
  *   - What work held before does not matter, so one buffer serves many calls, one after another.
  *   - Nothing is allocated, nothing is kept from call to call, and no random number is drawn. Calls may run at the same time, each
  *     with its own work and outputs.
- *   - The stack that a call takes: some 3 KB for biscuit_make_keys and biscuit_public_half, 40 KB for biscuit_sign, 35 KB for
- *     biscuit_verify, under 1 KB for an envelope. What was on it is not all cleared.
+ *   - The stack that a call takes is at most 4 KB for biscuit_make_keys and biscuit_public_half, 72 KB for biscuit_sign and
+ *     biscuit_verify, 1 KB for an envelope (sets 2, 4 and 6 take less). What was on it is not all cleared.
  *   - The four high bits behind an odd last element of a key mean nothing (the last byte of public keys of sets 1, 2, 5 and 6, and
  *     of secret keys of sets 3 and 4): the library writes them as 0 and ignores them in a key that it is lent. A secret key's bytes
  *     go into its signatures as given, these bits included.
@@ -276,7 +276,8 @@ static inline uint8_t biscuit_parts_of(const uint8_t *envelope, size_t envelope_
     return answer;
 }
 
-/* Fills the whole of out with SHAKE256 of the message. In an archive of its own, libshake.a. */
+/* Fills the whole of out with SHAKE256 of the message. In an archive of its own, libshake.a, which
+ * bench/archive shake makes. */
 void biscuit_shake256(const uint8_t *message, size_t message_size, uint8_t *out, size_t out_size);
 
 #ifdef __cplusplus

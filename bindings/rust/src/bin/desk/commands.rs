@@ -10,6 +10,9 @@ use std::path::Path;
 /// The most that is read of an envelope: whatever is longer is longer than any legal one.
 const ENVELOPE_LIMIT: usize = 65_536;
 
+/// The bytes of the longest public key.
+const LONGEST_KEY: usize = Set::Biscuit256f.public_key_len();
+
 /// Prints how to use it.
 pub fn help(usage: &str) -> Ended {
     match std::io::stdout().write_all(usage.as_bytes()) {
@@ -21,9 +24,13 @@ pub fn help(usage: &str) -> Ended {
 /// Makes a key pair from two seeds.
 pub fn keys(set: &OsStr, circuit_seed: &Path, secret_seed: &Path, secret_key: &Path, public_key: &Path) -> Ended {
     let set = named(set)?;
+    if secret_key == public_key {
+        return Err(Failure::Said(format!("{}: is named for both keys", shown(secret_key))));
+    }
     let circuit = drawn(circuit_seed, set.seed_len())?;
     let mut secret = drawn(secret_seed, set.seed_len())?;
-    let sizes = format!("{}, {}", read(circuit_seed, &circuit), read(secret_seed, &secret));
+    let limit = set.seed_len();
+    let sizes = format!("{}, {}", read(circuit_seed, &circuit, limit), read(secret_seed, &secret, limit));
     let same = circuit == secret;
     let made = Desk::new().make_keys(set, &circuit, &secret);
     clear(&mut secret);
@@ -55,11 +62,12 @@ pub fn sign(set: &OsStr, secret_key: &Path, message: &Path, envelope: &Path, ran
     let lent = random.map(|random| drawn(random, set.random_len())).transpose()?;
     let secret = secret_key_of(set, secret_key, &mut at_most(secret_key, set.secret_key_len())?);
     if let Some((random, bytes)) = random.zip(lent.as_ref()).filter(|(_, bytes)| bytes.len() != set.random_len()) {
-        let wanted = format!("{}; random bytes of set {set} number {}", read(random, bytes), set.random_len());
+        let without = if bytes.is_empty() { "; to sign without random bytes name no file for them" } else { "" };
+        let wanted = format!("{}; random bytes of set {set} number {}{without}", read(random, bytes, set.random_len()), set.random_len());
         return Err(refused(Refusal::SeedOrRandomLength, wanted));
     }
     if content.len() > MESSAGE_LIMIT {
-        return Err(refused(Refusal::MessageTooLong, read(message, &content)));
+        return Err(refused(Refusal::MessageTooLong, read(message, &content, MESSAGE_LIMIT)));
     }
     let signed = Desk::new().sign_envelope(&secret?, &content, lent.as_deref());
     written(envelope, &signed.map_err(|refusal| refused(refusal, shown(secret_key)))?)
@@ -104,16 +112,16 @@ struct Known<'a> {
 impl Known<'_> {
     /// Reads it. A length that no set has is refused before any envelope is looked at.
     fn read(path: &Path) -> Result<Known<'_>, Failure> {
-        let bytes = at_most(path, Set::Biscuit256f.public_key_len())?;
+        let bytes = at_most(path, LONGEST_KEY)?;
         if !Set::ALL.iter().any(|set| set.public_key_len() == bytes.len()) {
-            return Err(refused(Refusal::KeyLength, read(path, &bytes)));
+            return Err(refused(Refusal::KeyLength, read(path, &bytes, LONGEST_KEY)));
         }
         Ok(Known { path, bytes })
     }
 
     /// The key as one of the set.
     fn of(&self, set: Set) -> Result<PublicKey, String> {
-        let wanted = || format!("{}; a public key of set {set} has {}", read(self.path, &self.bytes), set.public_key_len());
+        let wanted = || format!("{}; a public key of set {set} has {}", read(self.path, &self.bytes, LONGEST_KEY), set.public_key_len());
         PublicKey::from_bytes(set, &self.bytes).map_err(|refusal| format!("{refusal} ({})", wanted()))
     }
 }
@@ -134,14 +142,17 @@ fn named(set: &OsStr) -> Result<Set, Failure> {
 
 /// A secret key from the bytes that were read, which are cleared.
 fn secret_key_of(set: Set, path: &Path, bytes: &mut [u8]) -> Result<SecretKey, Failure> {
-    let wanted = format!("{}; a secret key of set {set} has {}", read(path, bytes), set.secret_key_len());
+    let wanted = format!("{}; a secret key of set {set} has {}", read(path, bytes, set.secret_key_len()), set.secret_key_len());
     let key = SecretKey::from_bytes(set, bytes).map_err(|refusal| refused(refusal, wanted));
     clear(bytes);
     key
 }
 
-/// How much of a file was read.
-fn read(path: &Path, bytes: &[u8]) -> String {
+/// How much of a file was read: at most one byte more than the limit.
+fn read(path: &Path, bytes: &[u8], limit: usize) -> String {
+    if bytes.len() > limit {
+        return format!("{}: more than {limit} bytes", shown(path));
+    }
     format!("{}: {} bytes read", shown(path), bytes.len())
 }
 

@@ -3,6 +3,7 @@
 use std::ffi::OsStr;
 use std::fs::{remove_file, File, OpenOptions};
 use std::io::{ErrorKind, Read, Write};
+use std::os::unix::ffi::OsStrExt;
 use std::os::unix::fs::{FileTypeExt, OpenOptionsExt};
 use std::path::Path;
 
@@ -10,15 +11,18 @@ use std::path::Path;
 pub const SECRET: u32 = 0o600;
 pub const OPEN: u32 = 0o644;
 
-/// A word of the command line as a part of one line: what would end the line, turn it over or steer a terminal is written as an escape.
+/// A word of the command line as a part of one line: what would end the line, turn it over or steer a terminal is written as an escape, and so are a backslash and what is no letter, so that two words never look alike.
 pub fn shown<Word: AsRef<OsStr> + ?Sized>(word: &Word) -> String {
     let mut line = String::new();
-    for letter in word.as_ref().to_string_lossy().chars() {
-        match letter {
-            '\u{2028}'..='\u{202e}' | '\u{2066}'..='\u{2069}' => line.extend(letter.escape_default()),
-            _ if letter.is_control() => line.extend(letter.escape_default()),
-            _ => line.push(letter),
+    for chunk in word.as_ref().as_bytes().utf8_chunks() {
+        for letter in chunk.valid().chars() {
+            match letter {
+                '\\' | '\u{2028}'..='\u{202e}' | '\u{2066}'..='\u{2069}' => line.extend(letter.escape_default()),
+                _ if letter.is_control() => line.extend(letter.escape_default()),
+                _ => line.push(letter),
+            }
         }
+        line.extend(chunk.invalid().iter().map(|byte| format!("\\x{byte:02x}")));
     }
     line
 }

@@ -30,6 +30,7 @@ Both are files of exactly that length, or a device such as /dev/urandom, from wh
 A message has at most 32,768 bytes. No file is ever written over; a secret key is readable by its owner alone.
 A command that is killed while it writes may leave a file that is not whole: remove it before you try again.
 An envelope is genuine when it was signed with the key that it carries. --key says whose key that has to be.
+The status is 0 when all is well, 1 where something is refused or a file cannot be read or written, 2 where desk is used wrongly.
 ";
 
 /// What a command ends with: whether all was well, or why it did not do its work.
