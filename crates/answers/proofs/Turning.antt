@@ -1,6 +1,6 @@
 -- One group in each pass: packed and absorbed, added to the sums, kept as bytes and read back. Assumes nothing.
 use mathlib.Core.List.{List, _++_, flatten}
-use mathlib.Core.Path.{_≡_, refl, sym, ap, ap₂, subst, _∙_}
+use mathlib.Core.Path.{_≡_, sym, ap, ap₂, subst, _∙_}
 use Prim.Native.Nat.{ℕ, zero, suc, _+_, _-_, _*_, _≤_, _<_}
 use native.Mathlib.Nat.{sub-zero, zero-add}
 use native.Mathlib.Decide.{decLt}
@@ -11,6 +11,7 @@ use lib.ListN.{length, getD, take, drop, replicate, length-replicate, length-app
 use lib.Seq.{take-at, length-take-le, getD-take}
 use Rattle.memory.specs.Lists.{put}
 use Rattle.memory.proofs.Parts.{length-put, lent-put}
+use Rattle.memory.proofs.Xors.{getD-zeros}
 use Rattle.field.specs.Field.{mul}
 use Rattle.field.specs.Packing.{Elements, Bytes, nib, pack}
 use Rattle.field.specs.Vectors.{_!_}
@@ -42,14 +43,9 @@ pub zeros-part : (n m : ℕ) → Zeros (take (m - 0) (drop 0 (replicate n 0)))
 unfolding Zeros
 zeros-part n m k =
     elim (decLt k (m - 0)) as (λ d. _≡_ {A = ℕ} (getD (take (m - 0) (replicate n 0)) k 0) 0) [
-      | yes y ↦ getD-take (m - 0) (replicate n 0) k 0 y ∙ zero-entry n k
+      | yes y ↦ getD-take (m - 0) (replicate n 0) k 0 y ∙ getD-zeros n k
       | no y ↦ List·getD-eq-default (take (m - 0) (replicate n 0)) 0 {n = k} (let s = length-take (m - 0) (replicate {A = ℕ} n 0) in omega arith)
     ]
-  where
-    zero-entry : (n k : ℕ) → _≡_ {A = ℕ} (getD (replicate n 0) k 0) 0
-    zero-entry zero k = refl
-    zero-entry (suc n) zero = refl
-    zero-entry (suc n) (suc k) = zero-entry n k
 
 -- a part of zeros that was lent, its length, and the room for lending it again
 pub zeros-sized : (n m : ℕ) → m ≤ n → length (take (m - 0) (drop 0 (replicate {A = ℕ} n 0))) ≡ m

@@ -1,22 +1,20 @@
 -- Marks: the lanes of an element times a mark, the mark of a party, and what a word becomes by one turn of each loop.
 -- Assumes nothing.
 use mathlib.Core.Bool.{Bool, true, false, cond}
-use mathlib.Core.List.{List}
 use mathlib.Core.Path.{_≡_, refl, sym, ap, ap₂, subst, _∙_}
 use Prim.Native.Nat.{ℕ, zero, suc, _+_, _-_, _*_, _/_, _%_, _^_, _≤_, _<_}
-use native.Mathlib.Nat.{mul-comm, mul-zero, mul-one, one-mul, zero-mul, zero-add, add-mul, mod-one, mod-eq-of-lt, mod-lt, div-eq-of-lt, div-one, mul-le-mul-left, lt-of-lt-of-le, sub-self}
+use native.Mathlib.Nat.{mul-comm, mul-zero, mul-one, one-mul, zero-mul, zero-add, add-mul, mod-one, mod-eq-of-lt, div-eq-of-lt, mul-le-mul-left, lt-of-lt-of-le}
 use native.Mathlib.Decide.{decLt, ℕ-discrete}
 use native.Mathlib.Omega.{arith}
 use borrow.Author.Tests.{eq-eqb, ne-eqb}
 use lib.Bits.{bitXor, bitAnd, and-mask, and-zero-r}
 use lib.Dec.{T, eqb, lit<}
-use lib.Pow.{pow-add, pow-mono, pow-pos, mod-pow-add}
+use lib.Pow.{pow-add, pow-mono, mod-pow-add}
 use mir.Val.{Fits}
 use mir.Syntax.{w64}
 use Rattle.memory.proofs.Bits.{one-bit}
 use Rattle.memory.proofs.Digits.{scaled-div, scaled-mod}
 use Rattle.memory.proofs.Every.{every, same1}
-use Rattle.field.specs.Field.{mul}
 use Rattle.lanes.specs.Lanes.{lane, Times}
 use Rattle.lanes.proofs.Laws.{lane-lt, lane-zero, lane-xor, lane-and, lane-shl, lane-shl-low}
 use Rattle.marks.specs.Marks.{Flags, Mark, MarkedWord, MultipliedWord, ClearedWord, keeping}
@@ -100,15 +98,16 @@ all-ones : T (every 16 (λ q. eqb (lane q 0x1111111111111111) 1))
 unfolding lane
 all-ones = tt
 
+-- the word with 1 in every lane
+pub ones : (q : ℕ) → q < 16 → lane q 0x1111111111111111 ≡ 1
+ones q l = same1 16 (λ q. lane q 0x1111111111111111) (λ q. 1) all-ones q l
+
 -- every party but i: the mark of i turned over
 pub others-lane : (g i w q : ℕ) → Mark g i w → q < 16 → lane q (bitXor 0x1111111111111111 w) ≡ cond (eqb (suc (16 * g + q)) i) 0 1
 unfolding Mark
 others-lane g i w q h l =
     lane-xor q 0x1111111111111111 w ∙ ap₂ bitXor (ones q l) (h q l) ∙ turned (eqb (suc (16 * g + q)) i)
   where
-    ones : (q : ℕ) → q < 16 → lane q 0x1111111111111111 ≡ 1
-    ones q l = same1 16 (λ q. lane q 0x1111111111111111) (λ q. 1) all-ones q l
-
     turned : (b : Bool) → bitXor 1 (cond b 1 0) ≡ cond b 0 1
     turned true = refl
     turned false = refl

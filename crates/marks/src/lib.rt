@@ -1,11 +1,11 @@
 // Loops over words of sixteen lanes, one word for each place. No lane picks a branch or an address.
 ghost use mathlib.Core.Path.{_≡_};
-ghost use Prim.Native.Nat.{ℕ, _+_, _*_, _≤_, _<_};
+ghost use Prim.Native.Nat.{_+_, _*_, _≤_, _<_};
 ghost use lib.Bits.{bitXor};
 ghost use lib.ListN.{length};
 ghost use Rattle.field.specs.Packing.{Elements};
 ghost use Rattle.field.specs.Vectors.{_!_};
-ghost use Rattle.lanes.specs.Lanes.{WordAt, wordBytes};
+ghost use Rattle.lanes.specs.Lanes.{WordAt};
 ghost use Rattle.marks.specs.Marks.{Flags, Mark, Marked, MarkedBytes, Multiplied, Cleared, EachWord, keeping, WordsStored, laneSum};
 
 // A word with 15 in every lane.

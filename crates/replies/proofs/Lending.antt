@@ -1,7 +1,7 @@
 -- What the routines of one repetition are lent: their numbers, and the parts of work as the code cuts them. Assumes nothing.
 use mathlib.Core.Path.{_≡_, refl, sym, ap, ap₂, subst, _∙_}
 use mathlib.Core.List.{List, _++_, flatten}
-use Prim.Native.Nat.{ℕ, _+_, _-_, _*_, _/_, _≤_, _<_}
+use Prim.Native.Nat.{ℕ, _+_, _-_, _*_, _/_, _≤_}
 use native.Mathlib.Omega.{arith}
 use lib.ListN.{length, take, drop, replicate, length-take}
 use lib.Seq.{take-take, drop-drop, take-append-le, drop-at}
@@ -18,18 +18,19 @@ use Rattle.forms.specs.Room.{circuitLength, challengeIn, HoldsCircuit}
 use Rattle.parties.specs.Parties.{corrected, alphaOf}
 use Rattle.parties.specs.Repetition.{rawShare}
 use Rattle.group.specs.declared.Rep.{Rep}
-use Rattle.group.specs.Shares.{Sized, valuesLength, deltaS, deltaC, epsilon}
+use Rattle.group.specs.Shares.{valuesLength, deltaS, deltaC, epsilon}
 use Rattle.answers.specs.Answers.{sharesOf, answered}
 use Rattle.vectors.specs.Elements.{elementsAt}
 use Rattle.refusals.specs.Refusals.{workLength}
 use Rattle.biscuit.specs.Room.{Fits, groups, leavesAt, rootsAt, challengesAt, rootIn}
 use Rattle.biscuit.proofs.Parts.{length-first}
 use Rattle.biscuit.proofs.Repeated.{among-end}
-use Rattle.biscuit.proofs.Room.{mapped, behind-roots, some-groups, few-groups}
+use Rattle.biscuit.proofs.Room.{mapped, behind-roots}
 use Rattle.passes.specs.Passes.{seedsIn, tIn, Kept}
 use Rattle.passes.proofs.Planting.{root-part, planted-leaves, planted-kept}
 use Rattle.passes.proofs.Committing.{kept-more}
-use Rattle.replies.specs.Replies.{repOf, valuesIn, answersIn, alphaIn}
+use Rattle.reps.specs.Reps.{repOf}
+use Rattle.replies.specs.Replies.{valuesIn, answersIn, alphaIn}
 
 -- ---- the parts of work
 
@@ -59,20 +60,9 @@ values-lent P e w at from secret packing work values ew ef ea h =
 
 -- ---- the numbers of a repetition
 
-module _ (P : Params) (e : ℕ) (f : Fits P) (rep : Rep) (same : rep ≡ repOf P e) where
-  pub rep-sized : Sized rep
-  rep-sized =
-      subst (λ (q : Rep). Sized q) (sym same)
-      (record { variables = f .variables; some = f .some; equations = f .equations; seed = f .seed; groups = few-groups P f })
-
-  pub rep-some : 0 < rep .groups
-  rep-some = subst (λ (q : Rep). 0 < q .groups) (sym same) (some-groups P)
-
+module _ (P : Params) (e : ℕ) (f : Fits P) (rep : Rep) (same : rep ≡ repOf P e 0) where
   pub rep-values : (v : List ℕ) → length v ≡ P .n + 4 * P .m → length v ≡ valuesLength rep
   rep-values v h = subst (λ (q : Rep). length v ≡ valuesLength q) (sym same) (omega arith)
-
-  pub rep-groups : groups P ≡ 1 → rep .groups ≡ 1
-  rep-groups h = ap (λ (q : Rep). q .groups) same ∙ h
 
   pub rep-leaves : (size : ℕ) → size ≡ 16 * groups P * S P → size ≡ 16 * rep .groups * rep .s
   rep-leaves size h = h ∙ sym (ap (λ (q : Rep). 16 * q .groups * q .s) same)
@@ -128,7 +118,7 @@ module _ (P : Params) (e : ℕ) (f : Fits P) (rep : Rep) (same : rep ≡ repOf P
         let g = subst (λ (q : Rep). (Q : Params) (c : Circuit) → Q .n ≡ q .n → Q .m ≡ q .m → HoldsCircuit (q .n) (q .m) c (take (circuitLength (q .n) (q .m)) (take (end - 0) (drop 0 work)))
         → r ≡ absorbed hash (answered c q values (sharesOf Q q salt (take (16 * q .groups * q .s) (drop (circuitLength (q .n) (q .m)) (take (end - 0) (drop 0 work)))) values))) same k in
         g P c refl refl (subst (λ (x : List ℕ). HoldsCircuit (P .n) (P .m) c x) (sym (circuit-part end (omega arith))) held)
-        ∙ ap (λ (x : List ℕ). absorbed hash (answered c (repOf P e) values (sharesOf P (repOf P e) salt x values))) (leaves-part end h)
+        ∙ ap (λ (x : List ℕ). absorbed hash (answered c (repOf P e 0) values (sharesOf P (repOf P e 0) salt x values))) (leaves-part end h)
 
     circuit-before : (x y : List ℕ) → leavesAt P ≤ length x → take (leavesAt P) (x ++ y) ≡ take (circuitLength (P .n) (P .m)) x
     unfolding leavesAt
@@ -161,7 +151,7 @@ module _ (P : Params) (e : ℕ) (f : Fits P) (rep : Rep) (same : rep ≡ repOf P
         let y : leavesAt P ≡ end - 0 = omega arith in
         let place : at ≡ rootsAt P + (e - 1) * S P = ea ∙ ap₂ (λ (r w : ℕ). r + (e - 1) * w) er es in
         g P c refl refl (subst (λ (n : ℕ). HoldsCircuit (P .n) (P .m) c (take n work)) y held)
-        ∙ ap (λ (x : List ℕ). alphaOf c (epsilon (repOf P e) values) i (corrected (deltaS (repOf P e) values) (deltaC (repOf P e) values) i (rawShare P salt e i x)))
+        ∙ ap (λ (x : List ℕ). alphaOf c (epsilon (repOf P e 0) values) i (corrected (deltaS (repOf P e 0) values) (deltaC (repOf P e 0) values) i (rawShare P salt e i x)))
         (ap₂ (λ (n d : ℕ). take n (drop d work)) z place ∙ sym (root-part P work e))
 
 -- the leaf, as it is lent

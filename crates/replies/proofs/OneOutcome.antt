@@ -79,6 +79,6 @@ alpha-pass-one-outcome κs a good asked o q x y =
     let k = x .kept .1 .1 .1 .1 .0 in
     let l = y .kept .1 .1 .1 .1 .0 in
     ap (λ (b : List ℕ). (tt, (tt, (tt, (tt, (tt, (b, (tt, tt))))))))
-    (alphas-fixed (a .0) (asked .0 .0) (s .0) (s .1) (a .1 .1 .1 .1 .0 .now) (o .1 .1 .1 .1 .1 .0) (q .1 .1 .1 .1 .1 .0) (k ∙ asked .0 .5) (l ∙ asked .0 .5)
+    (alphas-fixed (a .0) (asked .0 .0) (s .0) (s .1) (a .1 .1 .1 .1 .0 .now) (o .1 .1 .1 .1 .1 .0) (q .1 .1 .1 .1 .1 .0) (k ∙ asked .0 .4) (l ∙ asked .0 .4)
     (x .promised .1) (y .promised .1) (x .promised .0 .1) (y .promised .0 .1)
     (x .promised .0 .0 (s .0) (s .1) (s .2) (s .3) (s .4)) (y .promised .0 .0 (s .0) (s .1) (s .2) (s .3) (s .4)))

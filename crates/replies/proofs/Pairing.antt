@@ -21,7 +21,8 @@ use Rattle.biscuit.proofs.Room.{mapped, behind-roots}
 use Rattle.passes.specs.Passes.{seedsIn, Kept}
 use Rattle.passes.proofs.Planting.{planted-part, planted-leaves, planted-kept, length-planted}
 use Rattle.passes.proofs.Committing.{kept-same, kept-more}
-use Rattle.replies.specs.Replies.{repOf, valuesIn, answersIn, answersOf}
+use Rattle.reps.specs.Reps.{repOf}
+use Rattle.replies.specs.Replies.{valuesIn, answersIn, answersOf}
 
 -- ---- one after the other
 
@@ -43,7 +44,7 @@ answered-after P e next salt secret packing before after hash first r k h g c he
 -- ---- side by side
 
 -- both have the numbers of the set
-module _ (P : Params) (e next : ℕ) (rep other : Rep) (same : rep ≡ repOf P e) (same′ : other ≡ repOf P next) where
+module _ (P : Params) (e next : ℕ) (rep other : Rep) (same : rep ≡ repOf P e 0) (same′ : other ≡ repOf P next 0) where
   pub beside-variables : other .n ≡ rep .n
   beside-variables = ap (λ (q : Rep). q .n) same′ ∙ sym (ap (λ (q : Rep). q .n) same)
 
@@ -66,8 +67,8 @@ module _ (P : Params) (e next : ℕ) (rep other : Rep) (same : rep ≡ repOf P e
       let g = subst (λ (q : Rep). (Q : Params) (c : Circuit) → Q .n ≡ q .n → Q .m ≡ q .m → HoldsCircuit (q .n) (q .m) c (take (map .leaves - 0) (drop 0 work))
       → r ≡ absorbed (absorbed hash (answered c q values (sharesOf Q q salt leaves values))) (answered c other more (sharesOf Q other salt (take (map .room - map .leaves) (drop (map .leaves) work)) more))) same k in
       g P c refl refl (subst (λ (n : ℕ). HoldsCircuit (P .n) (P .m) c (take n work)) first held)
-      ∙ ap (λ (q : Rep). absorbed (absorbed hash (answered c (repOf P e) values (sharesOf P (repOf P e) salt leaves values))) (answered c q more (sharesOf P q salt (take (map .room - map .leaves) (drop (map .leaves) work)) more))) same′
-      ∙ ap₂ (λ (n d : ℕ). absorbed (absorbed hash (answered c (repOf P e) values (sharesOf P (repOf P e) salt leaves values))) (answered c (repOf P next) more (sharesOf P (repOf P next) salt (take n (drop d work)) more))) size a
+      ∙ ap (λ (q : Rep). absorbed (absorbed hash (answered c (repOf P e 0) values (sharesOf P (repOf P e 0) salt leaves values))) (answered c q more (sharesOf P q salt (take (map .room - map .leaves) (drop (map .leaves) work)) more))) same′
+      ∙ ap₂ (λ (n d : ℕ). absorbed (absorbed hash (answered c (repOf P e 0) values (sharesOf P (repOf P e 0) salt leaves values))) (answered c (repOf P next 0) more (sharesOf P (repOf P next 0) salt (take n (drop d work)) more))) size a
 
 -- one group has sixteen leaves
 pub sixteen-leaves : (P : Params) (size : ℕ) → groups P ≡ 1 → size ≡ 16 * S P → size ≡ 16 * groups P * S P

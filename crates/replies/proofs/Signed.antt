@@ -23,7 +23,8 @@ use Rattle.biscuit.proofs.SignSized.{length-seeds}
 use Rattle.passes.specs.Passes.{seedsIn, sIn, HoldsRoots, HoldsCorrections}
 use Rattle.passes.proofs.Planting.{pieces-seeds}
 use Rattle.passes.proofs.Committing.{seeds-in}
-use Rattle.replies.specs.Replies.{HoldsChallenges, Challenged, repOf, valuesIn, answersIn, alphaIn}
+use Rattle.reps.specs.Reps.{repOf}
+use Rattle.replies.specs.Replies.{HoldsChallenges, Challenged, valuesIn, answersIn, alphaIn}
 use Rattle.replies.proofs.Values.{deltaS-values, deltaC-values, epsilon-values, target-values}
 
 -- the shares of all parties, from the corrections, the salt and the seeds
@@ -49,24 +50,24 @@ module _ (P : Params) (signer : Signer) (msg salt secret packing work : List ℕ
       let d = length-deltaS in
       omega arith
 
-  pub values-deltaS : shares.deltaS (repOf P e) (valuesIn P e secret packing (drop (challengesAt P) work)) ≡ sign.deltaS P signer e
+  pub values-deltaS : shares.deltaS (repOf P e 0) (valuesIn P e secret packing (drop (challengesAt P) work)) ≡ sign.deltaS P signer e
   values-deltaS =
       deltaS-values P e secret packing (drop (challengesAt P) work) size
       ∙ ap (take (P .n)) read-corrections
       ∙ take-at (sign.deltaS P signer e) (sign.deltaC P signer e) (P .n) length-deltaS
 
-  pub values-deltaC : shares.deltaC (repOf P e) (valuesIn P e secret packing (drop (challengesAt P) work)) ≡ sign.deltaC P signer e
+  pub values-deltaC : shares.deltaC (repOf P e 0) (valuesIn P e secret packing (drop (challengesAt P) work)) ≡ sign.deltaC P signer e
   values-deltaC =
       deltaC-values P e secret packing (drop (challengesAt P) work) size
       ∙ ap (λ (l : List ℕ). take (P .m) (drop (P .n) l)) read-corrections
       ∙ ap (take (P .m)) (drop-at (sign.deltaS P signer e) (sign.deltaC P signer e) (P .n) length-deltaS)
       ∙ take-all (P .m) (sign.deltaC P signer e) (let l = length-deltaC in omega arith)
 
-  pub values-epsilon : shares.epsilon (repOf P e) (valuesIn P e secret packing (drop (challengesAt P) work)) ≡ sign.ε P signer msg e
+  pub values-epsilon : shares.epsilon (repOf P e 0) (valuesIn P e secret packing (drop (challengesAt P) work)) ≡ sign.ε P signer msg e
   unfolding HoldsChallenges
   values-epsilon = epsilon-values P e secret packing (drop (challengesAt P) work) size ∙ challenged .challenges e from to
 
-  pub values-target : shares.target (repOf P e) (valuesIn P e secret packing (drop (challengesAt P) work)) ≡ signer .key .t
+  pub values-target : shares.target (repOf P e 0) (valuesIn P e secret packing (drop (challengesAt P) work)) ≡ signer .key .t
   values-target = target-values P e secret packing (drop (challengesAt P) work) size ∙ sym (challenged .held .t)
 
   -- the signer's shares
@@ -76,13 +77,13 @@ module _ (P : Params) (signer : Signer) (msg salt secret packing work : List ℕ
       sym (numbered-numbered (corrected (sign.deltaS P signer e) (sign.deltaC P signer e)) (repetition.rawShare P (signer .salt) e) 1 (sign.seeds P signer e))
 
   module _ (f : Fits P) (whole : length work ≡ workLength) (rooted : HoldsRoots P signer (drop (rootsAt P) work)) where
-    shares-in : sharesOf P (repOf P e) salt (flatten (seedsIn P salt (drop (rootsAt P) work) e)) (valuesIn P e secret packing (drop (challengesAt P) work)) ≡ sign.shares P signer e
+    shares-in : sharesOf P (repOf P e 0) salt (flatten (seedsIn P salt (drop (rootsAt P) work) e)) (valuesIn P e secret packing (drop (challengesAt P) work)) ≡ sign.shares P signer e
     unfolding sharesOf sharesFrom
     shares-in =
         let v = valuesIn P e secret packing (drop (challengesAt P) work) in
-        ap (λ (l : List (List ℕ)). sharesFrom P e (shares.deltaS (repOf P e) v) (shares.deltaC (repOf P e) v) salt l)
+        ap (λ (l : List (List ℕ)). sharesFrom P e (shares.deltaS (repOf P e 0) v) (shares.deltaC (repOf P e 0) v) salt l)
         (pieces-seeds P f salt work whole e from to ∙ sym (seeds-in P signer salt secret (drop (rootsAt P) work) (challenged .held) rooted e from to))
-        ∙ ap (λ (x : List ℕ). sharesFrom P e (shares.deltaS (repOf P e) v) (shares.deltaC (repOf P e) v) x (sign.seeds P signer e)) (sym (challenged .held .salted))
+        ∙ ap (λ (x : List ℕ). sharesFrom P e (shares.deltaS (repOf P e 0) v) (shares.deltaC (repOf P e 0) v) x (sign.seeds P signer e)) (sym (challenged .held .salted))
         ∙ ap₂ (λ (x y : List ℕ). sharesFrom P e x y (signer .salt) (sign.seeds P signer e)) values-deltaS values-deltaC
         ∙ shares-signed
 
@@ -92,10 +93,10 @@ module _ (P : Params) (signer : Signer) (msg salt secret packing work : List ℕ
     unfolding answersIn answered sign.allV sign.αs
     answers-signed =
         let v = valuesIn P e secret packing (drop (challengesAt P) work) in
-        let ps = sharesOf P (repOf P e) salt (flatten (seedsIn P salt (drop (rootsAt P) work) e)) v in
+        let ps = sharesOf P (repOf P e 0) salt (flatten (seedsIn P salt (drop (rootsAt P) work) e)) v in
         let c = sign.f P signer in
-        ap₂ repetition.second (nobody-alphas c (shares.epsilon (repOf P e) v) (shares.alphaGiven (repOf P e) v) ps) (nobody-vs c (shares.target (repOf P e) v) (shares.epsilon (repOf P e) v) (shares.alphaGiven (repOf P e) v) ps)
-        ∙ ap (λ (l : List Share). repetition.second (alphas c (shares.epsilon (repOf P e) v) l) (vs c (shares.target (repOf P e) v) (shares.epsilon (repOf P e) v) l)) shares-in
+        ap₂ repetition.second (nobody-alphas c (shares.epsilon (repOf P e 0) v) (shares.alphaGiven (repOf P e 0) v) ps) (nobody-vs c (shares.target (repOf P e 0) v) (shares.epsilon (repOf P e 0) v) (shares.alphaGiven (repOf P e 0) v) ps)
+        ∙ ap (λ (l : List Share). repetition.second (alphas c (shares.epsilon (repOf P e 0) v) l) (vs c (shares.target (repOf P e 0) v) (shares.epsilon (repOf P e 0) v) l)) shares-in
         ∙ ap₂ (λ (x t : List ℕ). repetition.second (alphas c x (sign.shares P signer e)) (vs c t x (sign.shares P signer e))) values-epsilon values-target
 
   -- the α of one party, from its leaf
@@ -108,7 +109,7 @@ module _ (P : Params) (signer : Signer) (msg salt secret packing work : List ℕ
       let n = length-seeds P signer msg e in
       let g : ℕ → List ℕ → Share = λ j seed. corrected (sign.deltaS P signer e) (sign.deltaC P signer e) j (repetition.rawShare P (signer .salt) e j seed) in
       let s : suc (i - 1) ≡ i = omega arith in
-      ap₂ (λ (x y : List ℕ). alphaOf c (shares.epsilon (repOf P e) v) i (corrected x y i (repetition.rawShare P salt e i leaf))) values-deltaS values-deltaC
+      ap₂ (λ (x y : List ℕ). alphaOf c (shares.epsilon (repOf P e 0) v) i (corrected x y i (repetition.rawShare P salt e i leaf))) values-deltaS values-deltaC
       ∙ ap₂ (λ (x y : List ℕ). alphaOf c x i (corrected (sign.deltaS P signer e) (sign.deltaC P signer e) i (repetition.rawShare P y e i leaf))) values-epsilon (sym (challenged .held .salted))
       ∙ ap₂ (λ (j : ℕ) (x : List ℕ). alphaOf c (sign.ε P signer msg e) j (g j x)) (sym s) el
       ∙ ap (alphaOf c (sign.ε P signer msg e) (suc (i - 1))) (sym (getD-parties g (sign.seeds P signer e) (i - 1) [] (record { s = []; a = []; c = [] }) (omega arith)))

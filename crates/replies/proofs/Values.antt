@@ -19,7 +19,8 @@ use Rattle.vectors.proofs.Elements.{length-elements-at, elements-at-elements}
 use Rattle.biscuit.proofs.Parts.{four-sizes, four-sections}
 use Rattle.biscuit.proofs.Repeated.{append-elements, take-elements, drop-elements}
 use Rattle.passes.specs.Passes.{tIn}
-use Rattle.replies.specs.Replies.{repOf, valuesIn}
+use Rattle.reps.specs.Reps.{repOf}
+use Rattle.replies.specs.Replies.{valuesIn}
 
 -- ---- parts of lists
 
@@ -49,22 +50,22 @@ module _ (P : Params) (e : ℕ) (secret packing challenges : List ℕ) (size : l
       (append-elements (take (P .m) (drop (P .n) secret)) (replicate (P .m) 0) (take-elements (P .m) (drop (P .n) secret) (drop-elements (P .n) secret h))
       (λ i. let z = getD-zeros (P .m) i in omega arith)))
 
-  pub deltaS-values : deltaS (repOf P e) (valuesIn P e secret packing challenges) ≡ take (P .n) (elementsAt packing ((e - 1) * (P .n + P .m)) (P .n + P .m))
+  pub deltaS-values : deltaS (repOf P e 0) (valuesIn P e secret packing challenges) ≡ take (P .n) (elementsAt packing ((e - 1) * (P .n + P .m)) (P .n + P .m))
   unfolding deltaS valuesIn
   deltaS-values = take-append-le (P .n) (elementsAt packing ((e - 1) * (P .n + P .m)) (P .n + P .m)) _ (let l = length-corrections in omega arith)
 
-  pub deltaC-values : deltaC (repOf P e) (valuesIn P e secret packing challenges) ≡ take (P .m) (drop (P .n) (elementsAt packing ((e - 1) * (P .n + P .m)) (P .n + P .m)))
+  pub deltaC-values : deltaC (repOf P e 0) (valuesIn P e secret packing challenges) ≡ take (P .m) (drop (P .n) (elementsAt packing ((e - 1) * (P .n + P .m)) (P .n + P .m)))
   unfolding deltaC valuesIn
   deltaC-values =
       let l = length-corrections in
       ap (take (P .m)) (drop-append-le (P .n) (elementsAt packing ((e - 1) * (P .n + P .m)) (P .n + P .m)) _ (omega arith))
       ∙ take-append-le (P .m) (drop (P .n) (elementsAt packing ((e - 1) * (P .n + P .m)) (P .n + P .m))) _ (simp length-drop (omega arith))
 
-  pub epsilon-values : epsilon (repOf P e) (valuesIn P e secret packing challenges) ≡ challengeIn (P .m) challenges e
+  pub epsilon-values : epsilon (repOf P e 0) (valuesIn P e secret packing challenges) ≡ challengeIn (P .m) challenges e
   unfolding epsilon valuesIn
   epsilon-values = second-part (elementsAt packing ((e - 1) * (P .n + P .m)) (P .n + P .m)) (challengeIn (P .m) challenges e) _ (P .n + P .m) (P .m) length-corrections length-challenge
 
-  pub target-values : target (repOf P e) (valuesIn P e secret packing challenges) ≡ tIn P secret
+  pub target-values : target (repOf P e 0) (valuesIn P e secret packing challenges) ≡ tIn P secret
   unfolding target valuesIn
   target-values =
       let d = elementsAt packing ((e - 1) * (P .n + P .m)) (P .n + P .m) in

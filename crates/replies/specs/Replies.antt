@@ -9,12 +9,12 @@ use Rattle.forms.specs.Circuit.{Circuit}
 use Rattle.forms.specs.Room.{HoldsCircuit, challengeIn, hiddenIn}
 use Rattle.parties.specs.Parties.{corrected, alphaOf}
 use Rattle.parties.specs.Repetition.{rawShare}
-use Rattle.group.specs.declared.Rep.{Rep}
 use Rattle.group.specs.Shares as shares
 use Rattle.answers.specs.Answers.{sharesOf, answered}
 use Rattle.vectors.specs.Elements.{elementsAt}
 use Rattle.biscuit.specs.Sign.{Signer, f, seeds, ε, αs, hidden}
-use Rattle.biscuit.specs.Room.{groups, leavesAt, rootsAt, challengesAt, rootIn}
+use Rattle.biscuit.specs.Room.{leavesAt, rootsAt, challengesAt, rootIn}
+use Rattle.reps.specs.Reps.{repOf}
 use Rattle.passes.specs.Passes.{seedsIn, tIn, HoldsSecret, HoldsCorrections}
 
 -- ---- what is lent
@@ -40,10 +40,6 @@ HoldsLeaves P signer msg leaves = (e : ℕ) → 1 ≤ e → e ≤ P .tau → roo
 
 -- ---- one repetition
 
--- the numbers of repetition e, with nobody left out
-abbrev pub repOf : Params → ℕ → Rep
-repOf P e = record { s = S P; n = P .n; m = P .m; e = e; hidden = 0; groups = groups P }
-
 -- Δs, Δc, the challenge and t of repetition e, and no given α
 unfoldable pub valuesIn : Params → ℕ → List ℕ → List ℕ → List ℕ → List ℕ
 valuesIn P e secret packing challenges =
@@ -51,7 +47,7 @@ valuesIn P e secret packing challenges =
 
 -- lines 26 to 34: what the second hash takes
 unfoldable pub answersIn : Params → Circuit → ℕ → List ℕ → List ℕ → List ℕ → List ℕ
-answersIn P f e salt values leaves = answered f (repOf P e) values (sharesOf P (repOf P e) salt leaves values)
+answersIn P f e salt values leaves = answered f (repOf P e 0) values (sharesOf P (repOf P e 0) salt leaves values)
 
 -- the same from what is lent: the values, and the leaves of the repetition's root
 abbrev pub answersOf : Params → Circuit → ℕ → List ℕ → List ℕ → List ℕ → List ℕ → List ℕ
@@ -61,7 +57,7 @@ answersOf P f e salt secret packing work =
 -- line 27: the α of party i
 unfoldable pub alphaIn : Params → Circuit → ℕ → ℕ → List ℕ → List ℕ → List ℕ → List ℕ
 alphaIn P f e i salt values leaf =
-    alphaOf f (shares.epsilon (repOf P e) values) i (corrected (shares.deltaS (repOf P e) values) (shares.deltaC (repOf P e) values) i (rawShare P salt e i leaf))
+    alphaOf f (shares.epsilon (repOf P e 0) values) i (corrected (shares.deltaS (repOf P e 0) values) (shares.deltaC (repOf P e 0) values) i (rawShare P salt e i leaf))
 
 -- ---- the packing of a signature
 

@@ -1,7 +1,6 @@
 // Of phase 5 the α of one hidden party, algorithm 12, lines 38 and 40: worked out from its leaf and written behind the corrections.
 // No secret picks a branch or an address; the number of the hidden party is public.
 use crate::inputs::read_values;
-use crate::inputs::rep_of;
 use biscuit::VALUES;
 use sets::MOST_EQUATIONS;
 use sets::Params;
@@ -88,7 +87,7 @@ fn alpha_leaf(
     let c = map.leaves;
     let a = map.roots + (e - 1) * s;
     let b = a + s;
-    let rep = rep_of(p, e);
+    let rep = reps::rep_of(p, e, 0);
     single::alpha_of(rep, salt, &work[0..c], values, i, &work[a..b], alpha);
 }
 

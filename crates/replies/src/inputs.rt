@@ -12,23 +12,7 @@ ghost use Rattle.refusals.specs.Refusals.{workLength};
 ghost use Rattle.biscuit.specs.Signature.{vectorCount};
 ghost use Rattle.biscuit.specs.Room.{Fits, challengesAt};
 ghost use Rattle.passes.specs.Passes.{tIn};
-ghost use Rattle.replies.specs.Replies.{repOf, valuesIn};
-
-// The numbers of repetition e, with nobody left out.
-pub fn rep_of(p: Params, e: usize) -> Rep
-    requires { ⌜ Fits p ⌝ }
-    ensures { λ r. ⌜ r ≡ repOf p e ⌝ }
-{
-    let groups = biscuit::groups_of(p);
-    Rep {
-        s: p.bits / 8,
-        n: p.n,
-        m: p.m,
-        e: e,
-        hidden: 0,
-        groups: groups,
-    }
-}
+ghost use Rattle.replies.specs.Replies.{valuesIn};
 
 // The values of repetition e, with its challenge from work.
 pub fn read_values(

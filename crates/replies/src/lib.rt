@@ -56,7 +56,7 @@ pub fn alpha_pass(
     packing: &mut [u8],
     work: &[u8],
 )
-    requires { ⌜ (Fits p) × (length (now salt) ≡ 2 * S p) × (length (now secret) ≡ p .n + p .m + p .m) × (Elements (now secret)) × (p .tau ≤ length (now hidden)) × (length (now packing) ≡ packedLength (vectorCount p)) × (length (now work) ≡ workLength) ⌝ }
+    requires { ⌜ (Fits p) × (length (now salt) ≡ 2 * S p) × (length (now secret) ≡ p .n + p .m + p .m) × (p .tau ≤ length (now hidden)) × (length (now packing) ≡ packedLength (vectorCount p)) × (length (now work) ≡ workLength) ⌝ }
     ensures writes { λ r. ⌜ ((signer : Signer) (msg : List ℕ) → Challenged p signer msg (now (salt .entry)) (now (secret .entry)) (now (packing .entry)) (now (work .entry)) → HoldsHidden p signer msg (now (hidden .entry)) → HoldsLeaves p signer msg (drop (rootsAt p) (now (work .entry))) → HoldsAlphas p signer msg (p .tau) (now (packing .exit))) ⌝ }
     ensures keeps { λ r. ⌜ ((j : ℕ) → j < p .tau * (p .n + p .m) → nib (now (packing .exit)) j ≡ nib (now (packing .entry)) j) ⌝ }
 {

@@ -1,9 +1,8 @@
 // Phase 3 of one repetition and of two, algorithm 12: the leaves are planted, and the second hash takes every α and then every v.
 // No secret picks a branch or an address; the numbers of the repetitions are public.
 use crate::inputs::read_values;
-use crate::inputs::rep_of;
 use biscuit::VALUES;
-use sets::LONGEST_SEED;
+use reps::LEAVES;
 use sets::Params;
 use sponge::Sponge;
 ghost use mathlib.Core.Path.{_≡_};
@@ -19,9 +18,6 @@ ghost use Rattle.biscuit.specs.Signature.{vectorCount};
 ghost use Rattle.biscuit.specs.Room.{Fits, groups, leavesAt, challengesAt};
 ghost use Rattle.passes.specs.Passes.{Kept};
 ghost use Rattle.replies.specs.Replies.{valuesIn, answersIn, answersOf};
-
-// The bytes of sixteen leaves.
-const LEAVES: usize = 16 * LONGEST_SEED;
 
 // Lines 26 to 34 of repetitions e and e + 1: side by side where a repetition is one group of parties, else one after the other.
 pub fn answer_pair(
@@ -124,8 +120,8 @@ fn answer_beside(
     let map = biscuit::layout_of(p);
     let a = map.leaves;
     let b = map.room;
-    let rep = rep_of(p, e);
-    let other = rep_of(p, e + 1);
+    let rep = reps::rep_of(p, e, 0);
+    let other = reps::rep_of(p, e + 1, 0);
     answers::two_repetitions(
         hash,
         rep,
@@ -186,6 +182,6 @@ fn answer_leaves(
     read_values(p, e, secret, packing, work, values);
     let map = biscuit::layout_of(p);
     let end = map.roots;
-    let rep = rep_of(p, e);
+    let rep = reps::rep_of(p, e, 0);
     answers::answers(hash, rep, salt, values, &mut work[0..end])
 }

@@ -2,16 +2,16 @@
 -- Assumes nothing.
 use mathlib.Core.Path.{_≡_, refl, sym, ap, ap₂, _∙_}
 use mathlib.Core.Bool.{Bool, true, false, cond}
-use mathlib.Core.List.{List, _++_, append-nil}
+use mathlib.Core.List.{List, _++_}
 use Prim.Native.Nat.{ℕ, _+_, _-_, _*_, _%_, _≤_, _<_}
 use native.Mathlib.Nat.{div-one, sub-zero}
 use native.Mathlib.Omega.{arith}
 use lib.Bits.{bitXor, xor-comm}
 use borrow.Author.Tests.{eq-eqb, ne-eqb}
 use lib.Dec.{eqb}
-use lib.ListN.{length, getD, take, drop, drop-of-length-le}
+use lib.ListN.{length, getD, take, drop}
 use Rattle.memory.specs.Lists.{over}
-use Rattle.memory.proofs.Parts.{over-fits}
+use Rattle.memory.proofs.Stores.{over-whole}
 use Rattle.memory.proofs.Copied.{copied-rest}
 use Rattle.field.specs.Field.{mul}
 use Rattle.field.specs.Packing.{nib, unpack, packedLength}
@@ -80,13 +80,10 @@ module _ (x ε tape : List ℕ) (mask : ℕ) (same : length ε ≡ length x) whe
 
 -- ---- the share
 
-copied-whole : (new old : List ℕ) → length new ≡ length old → over new old ≡ new
-copied-whole new old e = over-fits new old (omega arith) ∙ ap (λ (x : List ℕ). new ++ x) (drop-of-length-le old {i = length new} (omega arith)) ∙ append-nil new
-
 pub share-first : (i : ℕ) (tape delta s₀ s₁ s₂ : List ℕ) → i ≡ 1 → length delta ≡ length s₀ → s₁ ≡ over delta s₀ → s₂ ≡ unpack (length s₁) tape ⊕ s₁
     → s₂ ≡ cond (eqb i 1) (unpack (length s₀) tape ⊕ delta) (unpack (length s₀) tape)
 share-first i tape delta s₀ s₁ s₂ one size copied added =
-    let same = copied ∙ copied-whole delta s₀ size in
+    let same = copied ∙ over-whole delta s₀ size in
     added ∙ ap₂ (λ (n : ℕ) (x : List ℕ). unpack n tape ⊕ x) (ap length same ∙ size) same
     ∙ sym (ap (λ (b : Bool). cond b (unpack (length s₀) tape ⊕ delta) (unpack (length s₀) tape)) (eq-eqb i 1 one))
 

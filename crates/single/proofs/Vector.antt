@@ -21,7 +21,7 @@ use Rattle.forms.specs.Circuit.{linear}
 use Rattle.forms.specs.Room.{circuitLength, affineIn}
 use Rattle.forms.proofs.Circuit.{linear-at, length-linear}
 use Rattle.forms.proofs.Evaluated.{row-dot}
-use Rattle.forms.proofs.Room.{affine-size, circuit-three, row-in, length-rows-in}
+use Rattle.forms.proofs.Room.{packed-holds, affine-size, circuit-three, row-in, length-rows-in}
 use Rattle.single.specs.Masks.{MasksOf, RowsOf}
 use Rattle.single.proofs.Weighing.{bits-low}
 
@@ -35,16 +35,12 @@ packed-fits : (n : ℕ) → n ≤ 128 → packedLength n ≤ 64
 unfolding packedLength
 packed-fits n h = omega arith
 
-packed-covers : (n : ℕ) → n ≤ packedLength n * 2
-unfolding packedLength
-packed-covers n = omega arith
-
 module _ (s packed packed′ : List ℕ) (small : length s ≤ 128) (size : length packed ≡ 64) (zeros : (i : ℕ) → getD packed i 0 ≡ 0) (written : packed′ ≡ over (pack s) packed) where
   pub packed-elements : (j : ℕ) → nib packed′ j ≡ s ! j % 16
   packed-elements j =
       let l = length-pack s in
       let f = packed-fits (length s) small in
-      let c = packed-covers (length s) in
+      let c = packed-holds (length s) in
       let n = length (pack s) in
       let rest = drop n packed in
       ap (λ (b : List ℕ). nib b j) (written ∙ over-fits (pack s) packed (omega arith))

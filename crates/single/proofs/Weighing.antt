@@ -11,7 +11,7 @@ use lib.ListN.{length, getD, set, take, drop}
 use lib.Pow.{shr-shr, mod-mod-pow}
 use Rattle.memory.proofs.Bits.{xor-middle}
 use Rattle.memory.proofs.Digits.{digit-mod}
-use Rattle.memory.proofs.Every.{every-at, same1, same2}
+use Rattle.memory.proofs.Every.{every-at, same2}
 use Rattle.memory.proofs.Entries.{part-lent, entry-more}
 use Rattle.field.specs.Field.{mul, coefficient, polynomialProduct, without, modulus}
 use Rattle.field.specs.Packing.{nib}
@@ -21,6 +21,7 @@ use Rattle.field.proofs.Sums.{sumOf-add}
 use Rattle.lanes.specs.Lanes.{lane, Times, WordAt}
 use Rattle.lanes.proofs.Laws.{lane-lt, lane-zero, lane-xor, lane-and, lane-masked}
 use Rattle.marks.specs.Marks as marks
+use Rattle.marks.proofs.Marks.{ones}
 use Rattle.marks.proofs.Sums.{sum-same, sum-xor}
 use Rattle.single.specs.Masks.{MaskOf, MasksOf, RowsOf, weigh}
 
@@ -37,10 +38,6 @@ lane-bit k x b h =
 
 room : (k : ℕ) → k < 16 → T (ltb (0x1111111111111111 % 2 ^ (4 * k) * 15) (2 ^ (4 * k)))
 room = every-at 16 (λ k. ltb (0x1111111111111111 % 2 ^ (4 * k) * 15) (2 ^ (4 * k))) tt
-
-ones : (k : ℕ) → k < 16 → lane k 0x1111111111111111 ≡ 1
-unfolding lane
-ones = same1 16 (λ k. lane k 0x1111111111111111) (λ k. 1) tt
 
 pub mask-lanes : (x b : ℕ) → b < 4 → MaskOf x b (bitAnd (x / 2 ^ b) 0x1111111111111111 * 15)
 unfolding MaskOf coefficient

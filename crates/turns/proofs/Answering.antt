@@ -2,34 +2,24 @@
 -- Assumes nothing.
 use mathlib.Core.Path.{_≡_, sym, ap, ap₂, _∙_, subst}
 use mathlib.Core.List.{List}
-use Prim.Native.Nat.{ℕ, _+_, _-_, _*_, _≤_, _<_}
+use Prim.Native.Nat.{ℕ, _+_, _-_, _*_, _≤_}
 use native.Mathlib.Omega.{arith}
 use lib.ListN.{length, take, drop}
 use Rattle.sets.specs.declared.Params.{Params}
 use Rattle.forms.specs.Circuit.{Circuit}
 use Rattle.forms.specs.Room.{circuitLength, HoldsCircuit}
 use Rattle.group.specs.declared.Rep.{Rep}
-use Rattle.group.specs.Shares.{Sized, valuesLength}
+use Rattle.group.specs.Shares.{valuesLength}
 use Rattle.biscuit.specs.Room.{Fits, groups, leavesAt, roomAt, rootsAt, roomEnd}
 use Rattle.biscuit.proofs.Parts.{length-first}
-use Rattle.biscuit.proofs.Room.{mapped, some-groups, few-groups}
-use Rattle.turns.specs.Turns.{repOf, circuitPart, leavesPart}
+use Rattle.biscuit.proofs.Room.{mapped}
+use Rattle.reps.specs.Reps.{repOf}
+use Rattle.turns.specs.Turns.{circuitPart, leavesPart}
 use Rattle.turns.proofs.Sizes.{leaves-is, roots-is, leaves-groups, leaves-size, leaves-length}
 
 -- ---- the numbers of a repetition
 
 module _ (P : Params) (f : Fits P) (e h : ℕ) (rep : Rep) (same : rep ≡ repOf P e h) where
-  pub rep-sized : Sized rep
-  rep-sized =
-      subst (λ (q : Rep). Sized q) (sym same)
-      (record { variables = f .variables; some = f .some; equations = f .equations; seed = f .seed; groups = few-groups P f })
-
-  pub rep-some : 0 < rep .groups
-  rep-some = subst (λ (q : Rep). 0 < q .groups) (sym same) (some-groups P)
-
-  pub rep-one : groups P ≡ 1 → rep .groups ≡ 1
-  rep-one one = ap (λ (q : Rep). q .groups) same ∙ one
-
   pub rep-variables : P .n ≡ rep .n
   rep-variables = sym (ap (λ (q : Rep). q .n) same)
 

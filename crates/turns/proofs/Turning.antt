@@ -34,7 +34,8 @@ use Rattle.biscuit.specs.Room.{groups, leavesAt, roomAt, rootsAt, roomEnd, Fits
 use Rattle.biscuit.proofs.Parts.{length-first, drop-behind-put}
 use Rattle.biscuit.proofs.Places.{path-read}
 use Rattle.biscuit.proofs.Room.{mapped}
-use Rattle.turns.specs.Turns.{repOf, circuitPart, leavesPart, leaves, firstOf, secondOf}
+use Rattle.reps.specs.Reps.{repOf}
+use Rattle.turns.specs.Turns.{circuitPart, leavesPart, leaves, firstOf, secondOf}
 use Rattle.turns.proofs.Leaves.{leaves-left-out, length-filled, path-sized}
 use Rattle.turns.proofs.Reading.{Cut}
 use Rattle.turns.proofs.Sizes.{shown-fits, leaves-size}

@@ -10,18 +10,11 @@ use Rattle.sets.specs.declared.Params.{Params}
 use Rattle.tree.specs.Tree.{filled}
 use Rattle.forms.specs.Room.{HoldsCircuit, challengeIn, hiddenIn}
 use Rattle.parties.specs.Repetition.{first, second}
-use Rattle.group.specs.declared.Rep.{Rep}
 use Rattle.biscuit.specs.Keys.{PublicKey}
 use Rattle.biscuit.specs.Signature.{Signature}
 use Rattle.biscuit.specs.Verify as verify
-use Rattle.biscuit.specs.Room.{groups, leavesAt, roomAt, challengesAt, roomEnd}
+use Rattle.biscuit.specs.Room.{leavesAt, roomAt, challengesAt, roomEnd}
 use Rattle.turns.specs.declared.Both.{Both}
-
--- ---- the numbers of a repetition
-
--- of repetition e, with a party left out
-abbrev pub repOf : Params → ℕ → ℕ → Rep
-repOf P e party = record { s = S P; n = P .n; m = P .m; e = e; hidden = party; groups = groups P }
 
 -- ---- parts of work
 

@@ -1,10 +1,10 @@
-// One repetition of verifying, or two side by side (algorithm 13 of the submission, lines 8 to 32): the other parties' seeds are rebuilt, commitments and corrections go
+// One repetition of verifying, or two side by side (algorithm 13 of the submission, lines 8 to 34): the other parties' seeds are rebuilt, commitments and corrections go
 // to the first hash, answers to the second. Everything here is public.
 mod values;
 
 use biscuit::VALUES;
 use group::Rep;
-use sets::LONGEST_SEED;
+use reps::LEAVES;
 use sets::Params;
 use sponge::Sponge;
 ghost use mathlib.Core.Path.{_≡_};
@@ -24,10 +24,7 @@ ghost use Rattle.biscuit.specs.Keys.{PublicKey, publicKeyOf};
 ghost use Rattle.biscuit.specs.Signature.{shownAt, openingOf, extracted};
 ghost use Rattle.biscuit.specs.Verify as verify;
 ghost use Rattle.biscuit.specs.Room.{Fits, groups, leavesAt, roomAt, rootsAt, roomEnd};
-ghost use Rattle.turns.specs.Turns.{circuitPart, leavesPart, Expanded, repOf, valuesOf, leaves, firstOf, secondOf, TurnHashed, TwoHashed};
-
-// The bytes that hold the leaves of any repetition of sixteen parties.
-const LEAVES: usize = 16 * LONGEST_SEED;
+ghost use Rattle.turns.specs.Turns.{circuitPart, leavesPart, Expanded, valuesOf, leaves, firstOf, secondOf, TurnHashed, TwoHashed};
 
 // The two hashes, as far as they have absorbed.
 pub struct Both {
@@ -35,7 +32,7 @@ pub struct Both {
     pub second: Sponge,
 }
 
-// Lines 8 to 32 for repetition e: what it gives to the two hashes is absorbed.
+// Lines 8 to 34 for repetition e: what it gives to the two hashes is absorbed.
 pub fn turn(
     both: Both,
     p: Params,
@@ -55,7 +52,7 @@ pub fn turn(
     turn_in(both, p, e, pk, signature, parties, &mut values[0..n], work)
 }
 
-// Lines 8 to 32 for repetitions e and e + 1 of sixteen parties, with their answers worked out side by side.
+// Lines 8 to 34 for repetitions e and e + 1 of sixteen parties, with their answers worked out side by side.
 pub fn turn_two(
     both: Both,
     p: Params,
@@ -235,24 +232,8 @@ fn absorb_second(
     let a = 2 * (p.bits / 8);
     let layout = biscuit::layout_of(p);
     let d = layout.roots;
-    let rep = rep_of(p, e, party);
+    let rep = reps::rep_of(p, e, party);
     answers::answers(hash, rep, &signature[0..a], values, &mut work[0..d])
-}
-
-// The numbers of repetition e, with a party left out.
-fn rep_of(p: Params, e: usize, party: usize) -> Rep
-    requires { ⌜ Fits p ⌝ }
-    ensures { λ r. ⌜ r ≡ repOf p e party ⌝ }
-{
-    let groups = biscuit::groups_of(p);
-    Rep {
-        s: p.bits / 8,
-        n: p.n,
-        m: p.m,
-        e: e,
-        hidden: party,
-        groups: groups,
-    }
 }
 
 // Two repetitions, with room for the values of both and for the leaves of the first.
@@ -350,8 +331,8 @@ fn second_two(
     let layout = biscuit::layout_of(p);
     let c = layout.leaves;
     let d = layout.room;
-    let rep = rep_of(p, e, party);
-    let next = rep_of(p, e + 1, other);
+    let rep = reps::rep_of(p, e, party);
+    let next = reps::rep_of(p, e + 1, other);
     answers::two_repetitions(
         hash,
         rep,

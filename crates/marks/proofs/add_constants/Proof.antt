@@ -1,11 +1,9 @@
 -- `marks::add_constants` meets its contract. The invariant: the words below k are those with their elements added, and the others are as they were.
 -- Assumes nothing.
-use mathlib.Core.Path.{_≡_, refl, sym, _∙_}
-use Prim.Native.Nat.{ℕ, _+_, _-_, _*_, _≤_, _<_}
+use mathlib.Core.Path.{_≡_, refl, _∙_}
+use Prim.Native.Nat.{_+_, _-_, _≤_}
 use native.Mathlib.Omega.{arith}
-use lib.Bits.{bitXor}
-use lib.ListN.{length, getD, length-set}
-use Rattle.field.specs.Vectors.{_!_}
+use lib.ListN.{length, length-set}
 use Rattle.memory.proofs.Groups.{Stepped, stepped-none, stepped-more, stepped-all}
 use Rattle.field.specs.Packing.{nib}
 use Rattle.field.proofs.Packing.{nib-lt}
@@ -14,10 +12,6 @@ use Rattle.marks.proofs.Marks.{marked-turn, marked-turn-fits}
 use borrow.Author.Needs.{needs}
 use Rattle.marks.proofs.add_constants.Statement.{statement}
 use Rattle.marks.proofs.add_constants.Tie as tie
-use Rattle.marks.proofs.add_constants.Reads as reads
-use Rattle.marks.proofs.add_constants.Lts as lts
-use Rattle.field.proofs.element.Reads as element-reads
-use Rattle.marks.proofs.wide.Reads as wide-reads
 
 abbrev Inv-loop : tie.InvT-loop
 Inv-loop words₀ bytes i mark k₀ words k = (k ≤ length words₀) × (length words ≡ length words₀) × Stepped (λ j x y. MarkedWord (nib bytes (i + j)) mark x y) k words₀ words

@@ -1,10 +1,9 @@
 -- `marks::add_marked` meets its contract. The invariant: the words below k are those with their elements added, and the others are as they were.
 -- Assumes nothing.
-use mathlib.Core.Path.{_≡_, refl, sym, _∙_}
-use Prim.Native.Nat.{ℕ, _+_, _-_, _*_, _≤_, _<_}
+use mathlib.Core.Path.{_≡_, refl}
+use Prim.Native.Nat.{_-_, _≤_}
 use native.Mathlib.Omega.{arith}
-use lib.Bits.{bitXor}
-use lib.ListN.{length, getD, length-set}
+use lib.ListN.{length, length-set}
 use Rattle.field.specs.Vectors.{_!_}
 use Rattle.memory.proofs.Groups.{Stepped, stepped-none, stepped-more, stepped-all}
 use Rattle.marks.specs.Marks.{MarkedWord, Marked, EachWord}
@@ -12,9 +11,6 @@ use Rattle.marks.proofs.Marks.{marked-turn, marked-turn-fits}
 use borrow.Author.Needs.{needs}
 use Rattle.marks.proofs.add_marked.Statement.{statement}
 use Rattle.marks.proofs.add_marked.Tie as tie
-use Rattle.marks.proofs.add_marked.Reads as reads
-use Rattle.marks.proofs.add_marked.Lts as lts
-use Rattle.marks.proofs.wide.Reads as wide-reads
 
 abbrev Inv-loop : tie.InvT-loop
 Inv-loop words₀ values mark k₀ words k = (k ≤ length words₀) × (length words ≡ length words₀) × Stepped (λ j x y. MarkedWord (values ! j) mark x y) k words₀ words

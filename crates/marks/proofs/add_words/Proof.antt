@@ -1,18 +1,16 @@
 -- `marks::add_words` meets its contract. The invariant: the words below k are added to, and the others are as they were.
 -- Assumes nothing.
-use mathlib.Core.Path.{_≡_, refl, sym, _∙_}
-use Prim.Native.Nat.{ℕ, _+_, _-_, _*_, _≤_, _<_}
+use mathlib.Core.Path.{_≡_, refl}
+use Prim.Native.Nat.{_-_, _≤_}
 use native.Mathlib.Omega.{arith}
 use lib.Bits.{bitXor}
-use lib.ListN.{length, getD, length-set}
+use lib.ListN.{length, length-set}
 use Rattle.field.specs.Vectors.{_!_}
 use Rattle.memory.proofs.Groups.{Stepped, stepped-none, stepped-more, stepped-all}
 use Rattle.marks.specs.Marks.{EachWord}
 use borrow.Author.Needs.{needs}
 use Rattle.marks.proofs.add_words.Statement.{statement}
 use Rattle.marks.proofs.add_words.Tie as tie
-use Rattle.marks.proofs.add_words.Reads as reads
-use Rattle.marks.proofs.add_words.Lts as lts
 
 abbrev Inv-loop : tie.InvT-loop
 Inv-loop words₀ more k₀ words k = (k ≤ length words₀) × (length words ≡ length words₀) × Stepped (λ j x y. y ≡ bitXor x (more ! j)) k words₀ words

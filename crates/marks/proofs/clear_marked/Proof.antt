@@ -5,7 +5,7 @@ use Prim.Native.Nat.{_-_, _≤_}
 use native.Mathlib.Omega.{arith}
 use lib.ListN.{length, length-set}
 use borrow.Author.Needs.{needs}
-use Rattle.marks.specs.Marks.{ClearedWord, Cleared, EachWord, keeping}
+use Rattle.marks.specs.Marks.{ClearedWord, Cleared, EachWord}
 use Rattle.memory.proofs.Groups.{Stepped, stepped-none, stepped-more, stepped-all}
 use Rattle.marks.proofs.Marks.{cleared-turn}
 use Rattle.marks.proofs.clear_marked.Statement.{statement}

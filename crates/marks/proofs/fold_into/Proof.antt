@@ -1,19 +1,15 @@
 -- `marks::fold_into` meets its contract. The invariant: the words below k are the sums of the lanes, and the others are as they were.
 -- Assumes nothing.
-use mathlib.Core.Path.{_≡_, refl, sym, _∙_}
-use Prim.Native.Nat.{ℕ, _+_, _-_, _*_, _≤_, _<_}
+use mathlib.Core.Path.{_≡_, refl}
+use Prim.Native.Nat.{_-_, _≤_}
 use native.Mathlib.Omega.{arith}
-use lib.Bits.{bitXor}
-use lib.ListN.{length, getD, length-set}
+use lib.ListN.{length, length-set}
 use Rattle.field.specs.Vectors.{_!_}
 use Rattle.memory.proofs.Groups.{Stepped, stepped-none, stepped-more, stepped-all}
 use Rattle.marks.specs.Marks.{EachWord, laneSum}
 use borrow.Author.Needs.{needs}
 use Rattle.marks.proofs.fold_into.Statement.{statement}
 use Rattle.marks.proofs.fold_into.Tie as tie
-use Rattle.marks.proofs.fold_into.Reads as reads
-use Rattle.marks.proofs.fold_into.Lts as lts
-use Rattle.marks.proofs.folded.Reads as folded-reads
 
 abbrev Inv-loop : tie.InvT-loop
 Inv-loop words out₀ k₀ out k = (k ≤ length out₀) × (length out ≡ length out₀) × Stepped (λ j x y. y ≡ laneSum (words ! j)) k out₀ out

@@ -5,8 +5,6 @@ use Rattle.marks.proofs.Sums.{folded-sum}
 use borrow.Author.Needs.{needs}
 use Rattle.marks.proofs.folded.Statement.{statement}
 use Rattle.marks.proofs.folded.Tie as tie
-use Rattle.marks.proofs.folded.Reads as reads
-use Rattle.marks.proofs.folded.Lts as lts
 
 cast-result : tie.Need-cast-result
 cast-result c = search needs

@@ -1,20 +1,15 @@
 -- `marks::load_words` meets its contract. The invariant: the words below k are filled, and the others are as they were.
 -- Assumes nothing.
-use mathlib.Core.Path.{_≡_, refl, sym, _∙_}
-use Prim.Native.Nat.{ℕ, _+_, _-_, _*_, _≤_, _<_}
+use mathlib.Core.Path.{_≡_, refl}
+use Prim.Native.Nat.{_-_, _*_, _≤_}
 use native.Mathlib.Omega.{arith}
-use lib.Bits.{bitXor}
-use lib.ListN.{length, getD, length-set}
-use Rattle.field.specs.Vectors.{_!_}
+use lib.ListN.{length, length-set}
 use Rattle.memory.proofs.Groups.{Stepped, stepped-none, stepped-more, stepped-all}
 use Rattle.lanes.specs.Lanes.{WordAt}
 use Rattle.marks.specs.Marks.{EachWord}
 use borrow.Author.Needs.{needs}
 use Rattle.marks.proofs.load_words.Statement.{statement}
 use Rattle.marks.proofs.load_words.Tie as tie
-use Rattle.marks.proofs.load_words.Reads as reads
-use Rattle.marks.proofs.load_words.Lts as lts
-use Rattle.lanes.proofs.word_at.Reads as word-at-reads
 
 abbrev Inv-loop : tie.InvT-loop
 Inv-loop bytes words₀ k₀ words k = (k ≤ length words₀) × (length words ≡ length words₀) × Stepped (λ j x y. WordAt bytes (8 * j) y) k words₀ words

@@ -5,8 +5,6 @@ use Rattle.marks.proofs.Marks.{mark-before, mark-here, mark-behind}
 use borrow.Author.Needs.{needs}
 use Rattle.marks.proofs.mark.Statement.{statement}
 use Rattle.marks.proofs.mark.Tie as tie
-use Rattle.marks.proofs.mark.Reads as reads
-use Rattle.marks.proofs.mark.Lts as lts
 
 mul-first : tie.Need-mul-first
 mul-first c = search needs

@@ -1,10 +1,9 @@
 -- `marks::multiply_add` meets its contract. The invariant: the words below k are multiplied and added to, and the others are as they were.
 -- Assumes nothing.
-use mathlib.Core.Path.{_≡_, refl, sym, _∙_}
-use Prim.Native.Nat.{ℕ, _+_, _-_, _*_, _≤_, _<_}
+use mathlib.Core.Path.{_≡_, refl}
+use Prim.Native.Nat.{_-_, _≤_}
 use native.Mathlib.Omega.{arith}
-use lib.Bits.{bitXor}
-use lib.ListN.{length, getD, length-set}
+use lib.ListN.{length, length-set}
 use Rattle.field.specs.Vectors.{_!_}
 use Rattle.memory.proofs.Groups.{Stepped, stepped-none, stepped-more, stepped-all}
 use Rattle.marks.specs.Marks.{MultipliedWord, Multiplied, EachWord}
@@ -12,9 +11,6 @@ use Rattle.marks.proofs.Marks.{multiplied-word}
 use borrow.Author.Needs.{needs}
 use Rattle.marks.proofs.multiply_add.Statement.{statement}
 use Rattle.marks.proofs.multiply_add.Tie as tie
-use Rattle.marks.proofs.multiply_add.Reads as reads
-use Rattle.marks.proofs.multiply_add.Lts as lts
-use Rattle.lanes.proofs.times.Reads as times-reads
 
 abbrev Inv-loop : tie.InvT-loop
 Inv-loop words₀ values more k₀ words k = (k ≤ length words₀) × (length words ≡ length words₀) × Stepped (λ j x y. MultipliedWord (values ! j) (more ! j) x y) k words₀ words

@@ -1,5 +1,5 @@
 -- `marks::store_words` meets its contract. The invariant: the words below k are written, and what lies behind all of them is kept. Assumes nothing.
-use mathlib.Core.Path.{_≡_, refl, ap, _∙_}
+use mathlib.Core.Path.{_≡_, refl, _∙_}
 use Prim.Native.Nat.{_-_, _*_, _≤_}
 use native.Mathlib.Omega.{arith}
 use lib.ListN.{length, drop}

@@ -32,7 +32,7 @@ alpha-turn-requires c κs =
     let h = c .before .before .before .before .before .before .before .before .pre in
     let i = c .before .before .loop .inv in
     let t = c .before .loop-test .taken in
-    (h .0, omega arith, omega arith, h .1, h .2, h .4, i .1 ∙ h .5, h .6)
+    (h .0, omega arith, omega arith, h .1, h .2, h .3, i .1 ∙ h .4, h .5)
 
 add-done : tie.Need-add-done Inv-loop μ-loop
 add-done c = let b = c .before .before .before .before .before .before .before .before .before .before .before .pre .0 .repetitions in let t = c .before .before .before .before .loop-test .taken in omega arith

@@ -145,7 +145,6 @@ alpha-pass-requires c κs =
       pre .0,
       pre .3,
       pre .1,
-      pre .2,
       omega arith,
       packing-sized p (pre .0) x w salt secret hidden _ _ _ _ _ _ _ (pre .5) (pre .6) (head-at p) b refl (m .roots) (m .challenges) (sh .0) (sh .1),
       work-sized p (pre .0) x w salt secret hidden _ _ _ _ _ _ _ (pre .5) (pre .6) (head-at p) b refl (m .roots) (m .challenges) (sh .0) (sh .1),

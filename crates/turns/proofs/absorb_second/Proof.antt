@@ -10,7 +10,8 @@ use Rattle.sponge.specs.Steps.{absorbed}
 use Rattle.turns.proofs.Sizes.{head-fits, salt-short}
 use Rattle.turns.proofs.Reading.{values-cut}
 use Rattle.turns.proofs.Turning.{answered-as, salt-is, rooms-length, rooms-circuit, rooms-leaves, rooms-back-circuit, rooms-back-rest}
-use Rattle.turns.proofs.Answering.{rep-sized, rep-some, rep-variables, rep-equations, rep-values, rep-circuit, rep-leaves, rep-rooms, rep-holds}
+use Rattle.reps.proofs.Laws.{rep-sized, rep-some}
+use Rattle.turns.proofs.Answering.{rep-variables, rep-equations, rep-values, rep-circuit, rep-leaves, rep-rooms, rep-holds}
 use borrow.Author.Needs.{needs}
 use Rattle.turns.proofs.absorb_second.Statement.{statement}
 use Rattle.turns.proofs.absorb_second.Tie as tie

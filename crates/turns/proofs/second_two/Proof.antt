@@ -11,7 +11,8 @@ use Rattle.biscuit.proofs.Room.{mapped}
 use Rattle.turns.proofs.Sizes.{head-fits, salt-short}
 use Rattle.turns.proofs.Reading.{values-cut}
 use Rattle.turns.proofs.Turning.{answered-as, salt-is}
-use Rattle.turns.proofs.Answering.{rep-sized, rep-one, rep-variables, rep-equations, rep-values, rep-circuit, rep-leaves, rep-holds, circuit-lent, circuit-sized, leaves-lent, leaves-sized}
+use Rattle.reps.proofs.Laws.{rep-sized, rep-one}
+use Rattle.turns.proofs.Answering.{rep-variables, rep-equations, rep-values, rep-circuit, rep-leaves, rep-holds, circuit-lent, circuit-sized, leaves-lent, leaves-sized}
 use borrow.Author.Needs.{needs}
 use Rattle.turns.proofs.second_two.Statement.{statement}
 use Rattle.turns.proofs.second_two.Tie as tie

@@ -5,7 +5,8 @@ use Rattle.sets.specs.Sets.{S}
 use Rattle.refusals.proofs.Refusals.{workLength-is}
 use Rattle.biscuit.proofs.Room.{mapped}
 use Rattle.passes.proofs.Bounds.{root-end}
-use Rattle.replies.proofs.Lending.{rep-sized, rep-values, rep-equations, circuit-size, leaf-size, alpha-lent}
+use Rattle.reps.proofs.Laws.{rep-sized}
+use Rattle.replies.proofs.Lending.{rep-values, rep-equations, circuit-size, leaf-size, alpha-lent}
 use Rattle.replies.proofs.hidden.alpha_leaf.Statement.{statement}
 use Rattle.replies.proofs.hidden.alpha_leaf.Tie as tie
 
@@ -58,7 +59,7 @@ alpha-of-requires c κs =
     let r = c .before .before .before .rep-of .ensures in
     let q = h .3 in
     let b = f .seed in
-    (rep-sized _ _ f _ r, omega arith, circuit-size (s .args .p) _ f _ r (s .args .work .now) (h .5) _ (c .before .before .before .before .before .before .layout-of .ensures .leaves), rep-values (s .args .p) _ f _ r (s .args .values .now) (h .4), leaf-size (s .args .p) f _ _ (s .args .work .now) refl, rep-equations (s .args .p) _ f _ r (s .args .alpha .now) (h .6))
+    (rep-sized _ f _ _ _ r, omega arith, circuit-size (s .args .p) _ f _ r (s .args .work .now) (h .5) _ (c .before .before .before .before .before .before .layout-of .ensures .leaves), rep-values (s .args .p) _ f _ r (s .args .values .now) (h .4), leaf-size (s .args .p) f _ _ (s .args .work .now) refl, rep-equations (s .args .p) _ f _ r (s .args .alpha .now) (h .6))
 
 same-length : tie.Need-same-length
 same-length c = c .before .before .alpha-of .kept .1 .1 .1 .1 .1 .1 .0

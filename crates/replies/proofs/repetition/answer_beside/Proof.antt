@@ -2,7 +2,8 @@
 use native.Mathlib.Omega.{arith}
 use Rattle.biscuit.proofs.Room.{mapped}
 use Rattle.passes.proofs.Planting.{leaves-lent}
-use Rattle.replies.proofs.Lending.{rep-sized, rep-values, rep-groups, rep-leaves, circuit-size}
+use Rattle.reps.proofs.Laws.{rep-sized, rep-one}
+use Rattle.replies.proofs.Lending.{rep-values, rep-leaves, circuit-size}
 use Rattle.replies.proofs.Pairing.{beside-variables, beside-equations, absorbed-beside}
 use Rattle.replies.proofs.repetition.answer_beside.Statement.{statement}
 use Rattle.replies.proofs.repetition.answer_beside.Tie as tie
@@ -47,10 +48,10 @@ two-repetitions-requires c κs =
     let o = c .before .before .rep-of2 .ensures in
     let q = h .3 in
     let b = f .seed in (
-      rep-sized _ _ f _ r,
-      rep-sized _ _ f _ o,
-      rep-groups _ _ f _ r (h .1),
-      rep-groups _ _ f _ o (h .1),
+      rep-sized _ f _ _ _ r,
+      rep-sized _ f _ _ _ o,
+      rep-one _ f _ _ _ r (h .1),
+      rep-one _ f _ _ _ o (h .1),
       beside-variables _ _ _ _ _ r o,
       beside-equations _ _ _ _ _ r o,
       omega arith,

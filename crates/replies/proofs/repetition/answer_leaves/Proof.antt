@@ -4,8 +4,9 @@ use native.Mathlib.Omega.{arith}
 use mathlib.Core.List.{List}
 use Rattle.field.specs.Packing.{Elements}
 use Rattle.biscuit.proofs.Room.{mapped}
+use Rattle.reps.proofs.Laws.{rep-sized, rep-some}
 use Rattle.replies.proofs.Values.{values-elements}
-use Rattle.replies.proofs.Lending.{rep-sized, rep-some, rep-values, rooms-size, absorbed-leaves, rooms-kept, answered-values}
+use Rattle.replies.proofs.Lending.{rep-values, rooms-size, absorbed-leaves, rooms-kept, answered-values}
 use Rattle.replies.proofs.repetition.answer_leaves.Statement.{statement}
 use Rattle.replies.proofs.repetition.answer_leaves.Tie as tie
 
@@ -36,7 +37,7 @@ answers-requires c κs =
     let v = c .before .before .before .before .before .before .read-values in
     let q = h .3 in
     let b = f .seed in
-    (rep-sized _ _ f _ r, rep-some _ _ f _ r, omega arith, rep-values (s .args .p) _ f _ r (v .last .1 .1 .1 .1 .1 .0) (v .kept .1 .1 .1 .1 .1 .0 ∙ h .7), subst (λ (x : List _). Elements x) (sym (v .ensures)) (values-elements (s .args .p) (s .args .e) (s .args .secret .now) (s .args .packing .now) _ (h .4) (h .5)), rooms-size (s .args .p) _ f _ r (s .args .work .now) (h .8) _ (c .before .before .before .layout-of .ensures .roots))
+    (rep-sized _ f _ _ _ r, rep-some _ f _ _ _ r, omega arith, rep-values (s .args .p) _ f _ r (v .last .1 .1 .1 .1 .1 .0) (v .kept .1 .1 .1 .1 .1 .0 ∙ h .7), subst (λ (x : List _). Elements x) (sym (v .ensures)) (values-elements (s .args .p) (s .args .e) (s .args .secret .now) (s .args .packing .now) _ (h .4) (h .5)), rooms-size (s .args .p) _ f _ r (s .args .work .now) (h .8) _ (c .before .before .before .layout-of .ensures .roots))
 
 same-length : tie.Need-same-length
 same-length c = c .before .before .before .before .before .before .before .before .before .read-values .kept .1 .1 .1 .1 .1 .0
