@@ -22,14 +22,14 @@ read-one-outcome κs a good asked o q x y = ap (λ (r : Reading). (r, (tt, tt)))
 pub places-of-one-outcome : OneOutcome places-of.Kinds.ps places-of.Kinds.r places-of.Reads.Asked places-of.Reads.Learnt
 places-of-one-outcome κs a good asked o q x y = ap (λ (p : Places). (p, (tt, tt))) (x .promised ∙ sym (y .promised))
 
-pub public-key-of-one-outcome :
+pub public-key-of-settles :
     OneSight public-key-of.Kinds.ps public-key-of.Kinds.r public-key-of.Reads.Asked public-key-of.Reads.Learnt Lent (λ κs a o. lent (o .0))
-public-key-of-one-outcome κs a good asked o q x y = x .promised ∙ sym (y .promised)
+public-key-of-settles κs a good asked o q x y = x .promised ∙ sym (y .promised)
 
-pub signature-of-one-outcome :
+pub signature-of-settles :
     OneSight signature-of.Kinds.ps signature-of.Kinds.r signature-of.Reads.Asked signature-of.Reads.Learnt Lent (λ κs a o. lent (o .0))
-signature-of-one-outcome κs a good asked o q x y = x .promised ∙ sym (y .promised)
+signature-of-settles κs a good asked o q x y = x .promised ∙ sym (y .promised)
 
-pub message-of-one-outcome :
+pub message-of-settles :
     OneSight message-of.Kinds.ps message-of.Kinds.r message-of.Reads.Asked message-of.Reads.Learnt Lent (λ κs a o. lent (o .0))
-message-of-one-outcome κs a good asked o q x y = x .promised ∙ sym (y .promised)
+message-of-settles κs a good asked o q x y = x .promised ∙ sym (y .promised)

@@ -69,7 +69,7 @@ pub fn make_keys_sizes(
     if work < WORK {
         return WORK_TOO_SHORT;
     }
-    0
+    DONE
 }
 
 // The tests of the sizes of public half: 1, 4, 6, 7.
@@ -89,7 +89,7 @@ pub fn public_half_sizes(set: usize, secret_key: usize, public_key: usize, work:
     if work < WORK {
         return WORK_TOO_SHORT;
     }
-    0
+    DONE
 }
 
 // The tests of the sizes of sign: 1, 2, 3, 4, 6, 7.
@@ -121,7 +121,7 @@ pub fn sign_sizes(
     if work < WORK {
         return WORK_TOO_SHORT;
     }
-    0
+    DONE
 }
 
 // The tests of the sizes of verify: 1, 3, 4, 5, 7.
@@ -151,7 +151,7 @@ pub fn verify_sizes(
     if work < WORK {
         return WORK_TOO_SHORT;
     }
-    0
+    DONE
 }
 
 // Whether a number names no set.
