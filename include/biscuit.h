@@ -64,51 +64,64 @@ enum biscuit_answer {
 #define BISCUIT_LARGEST_SECRET_KEY_SIZE 212u
 #define BISCUIT_LARGEST_PUBLIC_KEY_SIZE 93u
 #define BISCUIT_LARGEST_SIGNATURE_SIZE 27348u
+#define BISCUIT_LARGEST_RANDOM_SIZE 64u
 #define BISCUIT_LARGEST_ENVELOPE_SIZE 60212u
 
-/* The sizes of each set, in bytes. */
+/* The sizes of each set, in bytes. RANDOM_SIZE is what biscuit_sign takes where it is lent random bytes: that many, or none. */
 #define BISCUIT_128S_SEED_SIZE 16u
 #define BISCUIT_128S_SECRET_KEY_SIZE 115u
 #define BISCUIT_128S_PUBLIC_KEY_SIZE 50u
 #define BISCUIT_128S_SIGNATURE_SIZE 4758u
+#define BISCUIT_128S_RANDOM_SIZE 32u
 #define BISCUIT_128F_SEED_SIZE 16u
 #define BISCUIT_128F_SECRET_KEY_SIZE 115u
 #define BISCUIT_128F_PUBLIC_KEY_SIZE 50u
 #define BISCUIT_128F_SIGNATURE_SIZE 6726u
+#define BISCUIT_128F_RANDOM_SIZE 32u
 #define BISCUIT_192S_SEED_SIZE 24u
 #define BISCUIT_192S_SECRET_KEY_SIZE 158u
 #define BISCUIT_192S_PUBLIC_KEY_SIZE 69u
 #define BISCUIT_192S_SIGNATURE_SIZE 11349u
+#define BISCUIT_192S_RANDOM_SIZE 48u
 #define BISCUIT_192F_SEED_SIZE 24u
 #define BISCUIT_192F_SECRET_KEY_SIZE 158u
 #define BISCUIT_192F_PUBLIC_KEY_SIZE 69u
 #define BISCUIT_192F_SIGNATURE_SIZE 15129u
+#define BISCUIT_192F_RANDOM_SIZE 48u
 #define BISCUIT_256S_SEED_SIZE 32u
 #define BISCUIT_256S_SECRET_KEY_SIZE 212u
 #define BISCUIT_256S_PUBLIC_KEY_SIZE 93u
 #define BISCUIT_256S_SIGNATURE_SIZE 20192u
+#define BISCUIT_256S_RANDOM_SIZE 64u
 #define BISCUIT_256F_SEED_SIZE 32u
 #define BISCUIT_256F_SECRET_KEY_SIZE 212u
 #define BISCUIT_256F_PUBLIC_KEY_SIZE 93u
 #define BISCUIT_256F_SIGNATURE_SIZE 27348u
+#define BISCUIT_256F_RANDOM_SIZE 64u
 
 /*
  * The same by the set's number: all 0 where there is no such set. S, in words, is the bytes of a seed: 16, 24 or 32. Random bytes
- * for signing number 0 or 2S. The s and f sets of one strength have keys of the same form, so a key made for 128f also works as one
- * of 128s: what a key was made for is for the caller to know.
+ * for signing number 0 or 2S, and `random` is 2S. The s and f sets of one strength have keys of the same form, so a key made for 128f
+ * also works as one of 128s: what a key was made for is for the caller to know.
  */
-struct biscuit_sizes { size_t seed, secret_key, public_key, signature; };
+struct biscuit_sizes { size_t seed, secret_key, public_key, signature, random; };
 
 static inline struct biscuit_sizes biscuit_sizes_of(size_t set)
 {
     static const struct biscuit_sizes sizes[] = {
-        {0, 0, 0, 0},
-        {BISCUIT_128S_SEED_SIZE, BISCUIT_128S_SECRET_KEY_SIZE, BISCUIT_128S_PUBLIC_KEY_SIZE, BISCUIT_128S_SIGNATURE_SIZE},
-        {BISCUIT_128F_SEED_SIZE, BISCUIT_128F_SECRET_KEY_SIZE, BISCUIT_128F_PUBLIC_KEY_SIZE, BISCUIT_128F_SIGNATURE_SIZE},
-        {BISCUIT_192S_SEED_SIZE, BISCUIT_192S_SECRET_KEY_SIZE, BISCUIT_192S_PUBLIC_KEY_SIZE, BISCUIT_192S_SIGNATURE_SIZE},
-        {BISCUIT_192F_SEED_SIZE, BISCUIT_192F_SECRET_KEY_SIZE, BISCUIT_192F_PUBLIC_KEY_SIZE, BISCUIT_192F_SIGNATURE_SIZE},
-        {BISCUIT_256S_SEED_SIZE, BISCUIT_256S_SECRET_KEY_SIZE, BISCUIT_256S_PUBLIC_KEY_SIZE, BISCUIT_256S_SIGNATURE_SIZE},
-        {BISCUIT_256F_SEED_SIZE, BISCUIT_256F_SECRET_KEY_SIZE, BISCUIT_256F_PUBLIC_KEY_SIZE, BISCUIT_256F_SIGNATURE_SIZE}
+        {0, 0, 0, 0, 0},
+        {BISCUIT_128S_SEED_SIZE, BISCUIT_128S_SECRET_KEY_SIZE, BISCUIT_128S_PUBLIC_KEY_SIZE, BISCUIT_128S_SIGNATURE_SIZE,
+         BISCUIT_128S_RANDOM_SIZE},
+        {BISCUIT_128F_SEED_SIZE, BISCUIT_128F_SECRET_KEY_SIZE, BISCUIT_128F_PUBLIC_KEY_SIZE, BISCUIT_128F_SIGNATURE_SIZE,
+         BISCUIT_128F_RANDOM_SIZE},
+        {BISCUIT_192S_SEED_SIZE, BISCUIT_192S_SECRET_KEY_SIZE, BISCUIT_192S_PUBLIC_KEY_SIZE, BISCUIT_192S_SIGNATURE_SIZE,
+         BISCUIT_192S_RANDOM_SIZE},
+        {BISCUIT_192F_SEED_SIZE, BISCUIT_192F_SECRET_KEY_SIZE, BISCUIT_192F_PUBLIC_KEY_SIZE, BISCUIT_192F_SIGNATURE_SIZE,
+         BISCUIT_192F_RANDOM_SIZE},
+        {BISCUIT_256S_SEED_SIZE, BISCUIT_256S_SECRET_KEY_SIZE, BISCUIT_256S_PUBLIC_KEY_SIZE, BISCUIT_256S_SIGNATURE_SIZE,
+         BISCUIT_256S_RANDOM_SIZE},
+        {BISCUIT_256F_SEED_SIZE, BISCUIT_256F_SECRET_KEY_SIZE, BISCUIT_256F_PUBLIC_KEY_SIZE, BISCUIT_256F_SIGNATURE_SIZE,
+         BISCUIT_256F_RANDOM_SIZE}
     };
     return sizes[set <= BISCUIT_256F ? set : 0];
 }
@@ -182,8 +195,8 @@ uint8_t biscuit_public_half(size_t set,
                             uint8_t *work, size_t work_size);
 
 /*
- * Signs a message. Random bytes are the caller's: 2S bytes that nobody can foretell, or none at all, and then the same key and
- * message always give the same signature.
+ * Signs a message. Random bytes are the caller's: 2S bytes (the set's RANDOM_SIZE) that nobody can foretell, or none at all, and then
+ * the same key and message always give the same signature.
  *   1  set outside 1 to 6
  *   2  random bytes are neither 0 nor 2S
  *   3  message over 32,768 bytes

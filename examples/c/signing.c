@@ -1,5 +1,5 @@
 /*
- * Makes a key pair, signs a message and verifies it, and shows two refusals. Compile it from the top of the repository, once `bench/archive desk` has made the library:
+ * Makes a key pair, signs a message and verifies it, and shows three refusals. Compile it from the top of the repository, once `bench/archive desk` has made the library:
  *
  *     cc -std=c99 -Iinclude examples/c/signing.c target/bench/libdesk.a -o target/signing
  */
@@ -14,9 +14,9 @@ static void say(const char *what, uint8_t answer)
 
 int main(void)
 {
-    /* The circuit seed is public. In a real program the secret seed is S bytes that nobody can foretell, as from /dev/urandom. Here it is fixed, so that the
-       example always prints the same. */
-    static const uint8_t circuit_seed[BISCUIT_128F_SEED_SIZE] = {1}, secret_seed[BISCUIT_128F_SEED_SIZE] = {2};
+    /* The circuit seed is public. In a real program the secret seed and the random bytes are bytes that nobody can foretell, as from /dev/urandom. Here they are
+       fixed, so that the example always does the same. */
+    static const uint8_t circuit_seed[BISCUIT_128F_SEED_SIZE] = {1}, secret_seed[BISCUIT_128F_SEED_SIZE] = {2}, random_bytes[BISCUIT_128F_RANDOM_SIZE] = {3};
     static const uint8_t message[] = "Good evening.";
     static uint8_t secret_key[BISCUIT_128F_SECRET_KEY_SIZE], public_key[BISCUIT_128F_PUBLIC_KEY_SIZE];
     static uint8_t signature[BISCUIT_128F_SIGNATURE_SIZE], work[BISCUIT_WORK_SIZE];
@@ -29,8 +29,12 @@ int main(void)
     if (answer != BISCUIT_DONE)
         return 1;
 
-    /* No random bytes are lent, so the same key and message always give the same signature. */
-    answer = biscuit_sign(BISCUIT_128F, secret_key, sizeof secret_key, message, message_size, NULL, 0, signature, sizeof signature, work, sizeof work);
+    answer = biscuit_sign(BISCUIT_128F, secret_key, sizeof secret_key, message, message_size, random_bytes, sizeof random_bytes - 1,
+                          signature, sizeof signature, work, sizeof work);
+    say("sign with a random byte too few", answer);
+    /* NULL and 0 in the place of random bytes lend none: the same key and message then always give the same signature. */
+    answer = biscuit_sign(BISCUIT_128F, secret_key, sizeof secret_key, message, message_size, random_bytes, sizeof random_bytes,
+                          signature, sizeof signature, work, sizeof work);
     biscuit_clear(secret_key, sizeof secret_key);
     say("sign", answer);
     if (answer != BISCUIT_DONE)

@@ -59,7 +59,7 @@ static void sign(const struct genuine *g, unsigned lowest, int alone, size_t set
 {
     struct part secret_key = lend(g->secret_key, g->size.secret_key, g->size.secret_key - (size_t)wrong(4, lowest, alone));
     struct part message = lend(MESSAGE, sizeof MESSAGE, wrong(3, lowest, alone) ? BISCUIT_MESSAGE_LIMIT + 1 : sizeof MESSAGE);
-    struct part random = lend(NULL, 0, wrong(2, lowest, alone) ? 2 * g->size.seed - 1 : 0);
+    struct part random = lend(NULL, 0, wrong(2, lowest, alone) ? g->size.random - 1 : 0);
     struct part signature = lend(NULL, 0, short_of(g->size.signature, wrong(6, lowest, alone)));
     struct part work = lend(NULL, 0, short_of(BISCUIT_WORK_SIZE, wrong(7, lowest, alone)));
     uint8_t answer;
@@ -120,10 +120,10 @@ static void make_genuine(struct genuine *g, size_t set, uint8_t *work)
                                work, BISCUIT_WORK_SIZE), 0);
 }
 
-/* Messages of no bytes and of the most, random bytes of 2S: signed, accepted, and refused for another message. */
+/* Messages of no bytes and of the most, with random bytes: signed, accepted, and refused for another message. */
 static void messages(const struct genuine *g, uint8_t *work)
 {
-    struct part random = lend(NULL, 0, 2 * g->size.seed), signature = lend(NULL, 0, g->size.signature), longest = lend(NULL, 0, BISCUIT_MESSAGE_LIMIT);
+    struct part random = lend(NULL, 0, g->size.random), signature = lend(NULL, 0, g->size.signature), longest = lend(NULL, 0, BISCUIT_MESSAGE_LIMIT);
     size_t sizes[2] = {0, BISCUIT_MESSAGE_LIMIT};
     int i;
     name_case(g->set, "shortest and longest message");
@@ -135,6 +135,23 @@ static void messages(const struct genuine *g, uint8_t *work)
         expect_answer(biscuit_verify(g->set, g->public_key, g->size.public_key, MESSAGE, 1, signature.bytes, signature.size, work, BISCUIT_WORK_SIZE), 9);
     }
     give_back(&random); give_back(&signature); give_back(&longest);
+}
+
+/* Random bytes are taken where they are none or as many as the header says, and every other number up to one more is refused. */
+static void random_bytes(const struct genuine *g, uint8_t *work)
+{
+    struct part signature = lend(NULL, 0, g->size.signature);
+    size_t size;
+    name_case(g->set, "random bytes");
+    for (size = 0; size <= g->size.random + 1; size++) {
+        struct part random = lend(NULL, 0, size);
+        int right = size == 0 || size == g->size.random;
+        expect_answer(biscuit_sign(g->set, g->secret_key, g->size.secret_key, MESSAGE, sizeof MESSAGE, random.bytes, random.size, signature.bytes,
+                                   signature.size, work, BISCUIT_WORK_SIZE), right ? BISCUIT_DONE : BISCUIT_SEED_OR_RANDOM_LENGTH);
+        give_back(&random);
+    }
+    expect(memcmp(signature.bytes, g->signature, signature.size) != 0, "random bytes make no other signature", g->set);
+    give_back(&signature);
 }
 
 /* The four bits behind an odd last element of a key are written as 0, and read as if they were; a secret key's go into its signatures. */
@@ -181,12 +198,12 @@ static void header(void)
     for (set = BISCUIT_128S; set <= BISCUIT_256F; set++) {
         struct biscuit_sizes size = biscuit_sizes_of(set);
         expect(size.seed <= BISCUIT_LARGEST_SEED_SIZE && size.secret_key <= BISCUIT_LARGEST_SECRET_KEY_SIZE && size.public_key <= BISCUIT_LARGEST_PUBLIC_KEY_SIZE
-               && size.signature <= BISCUIT_LARGEST_SIGNATURE_SIZE, "larger than the largest", set);
+               && size.signature <= BISCUIT_LARGEST_SIGNATURE_SIZE && size.random <= BISCUIT_LARGEST_RANDOM_SIZE, "larger than the largest", set);
     }
     expect(largest.seed == BISCUIT_LARGEST_SEED_SIZE && largest.secret_key == BISCUIT_LARGEST_SECRET_KEY_SIZE && largest.public_key == BISCUIT_LARGEST_PUBLIC_KEY_SIZE
-           && largest.signature == BISCUIT_LARGEST_SIGNATURE_SIZE, "the largest is another", 0);
+           && largest.signature == BISCUIT_LARGEST_SIGNATURE_SIZE && largest.random == BISCUIT_LARGEST_RANDOM_SIZE, "the largest is another", 0);
     expect(biscuit_envelope_size(BISCUIT_256F, BISCUIT_MESSAGE_LIMIT) == BISCUIT_LARGEST_ENVELOPE_SIZE, "the largest envelope is another", 0);
-    expect(biscuit_sizes_of(0).seed == 0 && biscuit_sizes_of(7).signature == 0 && biscuit_sizes_of((size_t)-1).seed == 0, "sizes of no set", 0);
+    expect(biscuit_sizes_of(0).seed == 0 && biscuit_sizes_of(7).signature == 0 && biscuit_sizes_of((size_t)-1).random == 0, "sizes of no set", 0);
     expect(biscuit_envelope_size(0, 1) == 0 && biscuit_envelope_size(7, 1) == 0, "an envelope of no set", 0);
     expect(biscuit_envelope_size(BISCUIT_128S, BISCUIT_MESSAGE_LIMIT + 1) == 0 && biscuit_envelope_size(BISCUIT_128S, (size_t)-1) == 0, "an envelope that is too long", 0);
     biscuit_clear(cleared.bytes, 7);
@@ -227,6 +244,7 @@ int main(void)
         every_case(&g, "sign", sign, sign_refuses);
         every_case(&g, "verify", verify, verify_refuses);
         messages(&g, work);
+        random_bytes(&g, work);
         unused_bits(&g, work);
         other_set(&g, work);
         printf("set %lu: %u cases\n", (unsigned long)set, cases - before);

@@ -62,11 +62,14 @@ impl Desk {
     /// ```
     /// use biscuit::{Desk, Refusal, Set};
     ///
+    /// const SET: Set = Set::Biscuit128f;
     /// let mut desk = Desk::new();
-    /// let (secret, _) = desk.make_keys(Set::Biscuit128f, &[1; 16], &[2; 16])?;
-    /// assert_eq!(desk.sign(&secret, b"take 3", Some(&[5; 31])), Err(Refusal::SeedOrRandomLength));
+    /// let (secret, _) = desk.make_keys(SET, &[1; SET.seed_len()], &[2; SET.seed_len()])?;
+    /// // In a real program the random bytes are bytes that nobody can foretell.
+    /// let random = [5; SET.random_len()];
+    /// assert_eq!(desk.sign(&secret, b"take 3", Some(&random[1..])), Err(Refusal::SeedOrRandomLength));
     /// assert_eq!(desk.sign(&secret, b"take 3", Some(&[])), Err(Refusal::SeedOrRandomLength));
-    /// assert_ne!(desk.sign(&secret, b"take 3", Some(&[5; 32])), desk.sign(&secret, b"take 3", None));
+    /// assert_ne!(desk.sign(&secret, b"take 3", Some(&random))?, desk.sign(&secret, b"take 3", None)?);
     /// # Ok::<(), Refusal>(())
     /// ```
     pub fn sign(&mut self, secret: &SecretKey, message: &[u8], random: Option<&[u8]>) -> Result<Signature, Refusal> {

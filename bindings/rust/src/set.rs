@@ -78,7 +78,7 @@ impl Set {
         self.row().seed
     }
 
-    /// The random bytes of a signature, 2S.
+    /// The random bytes that signing takes where it is lent any, 2S.
     pub const fn random_len(self) -> usize {
         2 * self.row().seed
     }

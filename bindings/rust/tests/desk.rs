@@ -40,7 +40,7 @@ fn refusals_of_signing_and_verifying() {
     let (secret, public) = pair(&mut desk, set);
     let long = vec![0; MESSAGE_LIMIT + 1];
     assert_eq!(desk.sign(&secret, &long, None), Err(Refusal::MessageTooLong));
-    for len in [0, 1, 31, 33] {
+    for len in [0, 1, set.seed_len(), set.random_len() - 1, set.random_len() + 1] {
         assert_eq!(desk.sign(&secret, b"", Some(&vec![3; len])), Err(Refusal::SeedOrRandomLength));
     }
     let mut bytes = secret.as_bytes().to_vec();
@@ -124,15 +124,28 @@ fn the_raw_calls_take_every_number() {
     }
 }
 
+/// The sizes of a set under the names that the header for C gives them.
+fn sizes(set: Set) -> [(&'static str, usize); 5] {
+    [
+        ("SEED", set.seed_len()),
+        ("SECRET_KEY", set.secret_key_len()),
+        ("PUBLIC_KEY", set.public_key_len()),
+        ("SIGNATURE", set.signature_len()),
+        ("RANDOM", set.random_len()),
+    ]
+}
+
 #[test]
 fn the_header_for_c_has_the_same_sizes_and_words() {
     for set in Set::ALL {
         let name = set.name().to_uppercase();
-        let sizes = [("SEED", set.seed_len()), ("SECRET_KEY", set.secret_key_len()), ("PUBLIC_KEY", set.public_key_len()), ("SIGNATURE", set.signature_len())];
-        for (what, size) in sizes {
+        for (what, size) in sizes(set) {
             assert!(HEADER.contains(&format!("#define BISCUIT_{name}_{what}_SIZE {size}u\n")), "{set}: {what}");
         }
         assert!(HEADER.contains(&format!("BISCUIT_{name} = {}", set.number())));
+    }
+    for (what, size) in sizes(Set::Biscuit256f) {
+        assert!(HEADER.contains(&format!("#define BISCUIT_LARGEST_{what}_SIZE {size}u\n")), "{what}");
     }
     for refusal in Refusal::ALL {
         let constant = format!("{refusal:?}").chars().flat_map(|c| if c.is_uppercase() { vec!['_', c] } else { vec![c.to_ascii_uppercase()] }).collect::<String>();
