@@ -11,20 +11,30 @@ use std::path::Path;
 pub const SECRET: u32 = 0o600;
 pub const OPEN: u32 = 0o644;
 
-/// A word of the command line as a part of one line: what would end the line, turn it over or steer a terminal is written as an escape, and so are a backslash and what is no letter, so that two words never look alike.
+/// A word of the command line as a part of one line: what would end the line, turn it over, steer a terminal or not be seen is written as an escape, and so are
+/// a backslash, so that no name holds an escape of its own making, and bytes that are no letter.
 pub fn shown<Word: AsRef<OsStr> + ?Sized>(word: &Word) -> String {
     let mut line = String::new();
     for chunk in word.as_ref().as_bytes().utf8_chunks() {
         for letter in chunk.valid().chars() {
-            match letter {
-                '\\' | '\u{2028}'..='\u{202e}' | '\u{2066}'..='\u{2069}' => line.extend(letter.escape_default()),
-                _ if letter.is_control() => line.extend(letter.escape_default()),
-                _ => line.push(letter),
+            if letter == '\\' || letter.is_control() || is_unseen(letter) {
+                line.extend(letter.escape_default());
+            } else {
+                line.push(letter);
             }
         }
         line.extend(chunk.invalid().iter().map(|byte| format!("\\x{byte:02x}")));
     }
     line
+}
+
+/// Whether a letter has no shape of its own: the marks, overrides and isolates that turn the order of a line, the ends of a line and of a paragraph, joiners and spaces without width,
+/// the soft hyphen, annotations and tags. ./check-clips has the same list in bytes.
+fn is_unseen(letter: char) -> bool {
+    matches!(
+        letter,
+        '\u{ad}' | '\u{61c}' | '\u{180e}' | '\u{200b}'..='\u{200f}' | '\u{2028}'..='\u{202e}' | '\u{2060}'..='\u{206f}' | '\u{feff}' | '\u{fff9}'..='\u{fffb}' | '\u{e0000}'..='\u{e007f}'
+    )
 }
 
 /// The bytes of a file, at most one more than `limit`: whatever is longer is refused all the same.
