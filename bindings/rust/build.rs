@@ -13,7 +13,7 @@ fn main() {
         refuse(format!("DESK_ARCHIVE is {folder}: it has to be a whole path, from / on"));
     }
     if !Path::new(&archive).exists() {
-        refuse(format!("{archive} is missing: `bench/archive desk` makes it"));
+        refuse(format!("{archive} is missing: `bench/archive desk` makes libdesk.a in target/bench"));
     }
     println!("cargo:rustc-link-search=native={folder}");
     println!("cargo:rustc-link-lib=static=desk");

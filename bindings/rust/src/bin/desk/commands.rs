@@ -136,8 +136,10 @@ fn checked<'a>(desk: &mut Desk, envelope: &'a [u8], known: Option<&Known>) -> Re
     Ok(parts)
 }
 
+/// The set of a word. Where there is none, the line names the sets that there are.
 fn named(set: &OsStr) -> Result<Set, Failure> {
-    set.to_str().unwrap_or_default().parse().map_err(|refusal| refused(refusal, shown(set)))
+    let sets = || Set::ALL.map(|set| format!("{} {set}", set.number())).join(", ");
+    set.to_str().unwrap_or_default().parse().map_err(|refusal| refused(refusal, format!("{}; the sets are {}", shown(set), sets())))
 }
 
 /// A secret key from the bytes that were read, which are cleared.
