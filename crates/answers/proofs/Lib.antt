@@ -1,6 +1,7 @@
 pub mod Absorbing
 pub mod OneGroup
 pub mod Passing
+pub mod Room
 pub mod Sizes
 pub mod Turning
 pub mod Values

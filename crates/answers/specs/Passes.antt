@@ -67,6 +67,11 @@ pub record HoldsGroup (g m : ℕ) (ys ws : List (List ℕ)) (part : List ℕ) : 
   pub second-form : (k q : ℕ) → k < m → q < 16 → nib part (16 * k + q) ≡ getD ys (16 * g + q) [] ! k
   pub rest : (k q : ℕ) → k < m → q < 16 → nib part (16 * (m + k) + q) ≡ getD ws (16 * g + q) [] ! k
 
+-- the room holds y and z·ε + c of all groups, one group behind the other
+abbrev pub HoldsRoom : Rep → List ℕ → List ℕ → List ℕ → List ℕ → List ℕ → Type 0
+HoldsRoom rep circuit salt leaves v room =
+    (g : ℕ) → g < rep .groups → HoldsGroup g (rep .m) (secondFormsOf rep circuit salt leaves v) (restsOf rep circuit salt leaves v) (take (16 * rep .m) (drop (g * (16 * rep .m)) room))
+
 -- what one turn of the first pass does
 pub record Turn (g m : ℕ) (αs ys ws : List (List ℕ)) (s : Sponge) (sa₀ sy₀ sw₀ sa sy sw part : List ℕ) (r : Sponge) : Type 0 where
   pub absorbs : r ≡ absorbed s (pack (flatten (take 16 (drop (16 * g) αs))))

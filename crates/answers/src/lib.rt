@@ -18,12 +18,14 @@ ghost use Rattle.forms.specs.Circuit.{Circuit};
 ghost use Rattle.forms.specs.Room.{circuitLength, circuitIn, HoldsCircuit};
 ghost use Rattle.group.specs.Shares.{Sized, valuesLength, shareAt, HoldsAnswers};
 ghost use Rattle.answers.specs.Answers.{sharesOf, answered};
+ghost use Rattle.answers.specs.Passes.{circuitOf, leavesOf, roomAt, HoldsRoom};
 
-// The second hash with every α and then every v of a repetition absorbed. The work holds the circuit, the leaves, and room for y and z·ε + c of each group.
+// The second hash with every α and then every v of a repetition absorbed. The work holds the circuit and the leaves, which stay, and room in which y and z·ε + c of each group are left.
 pub fn answers(sponge: Sponge, rep: Rep, salt: &[u8], values: &[u8], work: &mut [u8]) -> Sponge
     requires { ⌜ (Sized rep) × (0 < rep .groups) × (length (now salt) ≤ 64) × (length (now values) ≡ valuesLength rep) × (Elements (now values)) × (length (now work) ≡ circuitLength (rep .n) (rep .m) + 16 * rep .groups * rep .s + rep .groups * (16 * rep .m)) ⌝ }
-    ensures absorbs { λ r. ⌜ ((P : Params) (f : Circuit) → P .n ≡ rep .n → P .m ≡ rep .m → HoldsCircuit (rep .n) (rep .m) f (take (circuitLength (rep .n) (rep .m)) (now (work .entry))) → r ≡ absorbed sponge (answered f rep (now (values .entry)) (sharesOf P rep (now (salt .entry)) (take (16 * rep .groups * rep .s) (drop (circuitLength (rep .n) (rep .m)) (now (work .entry)))) (now (values .entry))))) ⌝ }
-    ensures kept { λ r. ⌜ take (circuitLength (rep .n) (rep .m)) (now (work .exit)) ≡ take (circuitLength (rep .n) (rep .m)) (now (work .entry)) ⌝ }
+    ensures absorbs { λ r. ⌜ ((P : Params) (f : Circuit) → P .n ≡ rep .n → P .m ≡ rep .m → HoldsCircuit (rep .n) (rep .m) f (circuitOf rep (now (work .entry))) → r ≡ absorbed sponge (answered f rep (now (values .entry)) (sharesOf P rep (now (salt .entry)) (leavesOf rep (now (work .entry))) (now (values .entry))))) ⌝ }
+    ensures kept { λ r. ⌜ take (roomAt rep) (now (work .exit)) ≡ take (roomAt rep) (now (work .entry)) ⌝ }
+    ensures room { λ r. ⌜ HoldsRoom rep (circuitOf rep (now (work .entry))) (now (salt .entry)) (leavesOf rep (now (work .entry))) (now (values .entry)) (drop (roomAt rep) (now (work .exit))) ⌝ }
 {
     let m = rep.m;
     let a = first::room_at(rep);

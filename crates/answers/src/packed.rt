@@ -3,7 +3,7 @@ use sets::MOST_EQUATIONS;
 use sponge::Sponge;
 ghost use mathlib.Core.Path.{_≡_};
 ghost use mathlib.Core.List.{List, flatten};
-ghost use Prim.Native.Nat.{ℕ, _*_, _≤_};
+ghost use Prim.Native.Nat.{ℕ, _≤_};
 ghost use lib.ListN.{length};
 ghost use Rattle.field.specs.Packing.{pack};
 ghost use Rattle.sponge.specs.Steps.{absorbed};

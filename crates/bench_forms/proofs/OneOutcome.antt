@@ -1,6 +1,6 @@
 -- Each public function of this crate has one outcome. Where the sizes fit the words are fixed lane by lane, and where they don't nothing has changed; sizes fit or don't. That a word is below 2 ^ 64 is what
 -- the type of the entries, u64, says. Assumes nothing.
-use mathlib.Core.Path.{_≡_, sym, ap, _∙_}
+use mathlib.Core.Path.{sym, ap, _∙_}
 use mathlib.Core.List.{List}
 use Prim.Native.Nat.{ℕ}
 use native.Mathlib.Decide.{decLe, ℕ-discrete}

@@ -8,9 +8,9 @@ use native.Mathlib.Nat.{zero-add, add-assoc}
 use native.Mathlib.Omega.{arith}
 use lib.ListN.{length, take, drop, length-append, length-drop}
 use lib.Seq.{take-at, drop-at, length-take-le}
-use Rattle.memory.specs.Lists.{StandsAt, same}
+use Rattle.memory.specs.Lists.{same}
 use Rattle.memory.proofs.Comparing.{same-equal, equal-same}
-use Rattle.memory.proofs.Stands.{stands-left, stands-right}
+use Rattle.memory.proofs.Stands.{StandsAt, stands-self, stands-left, stands-right, stands-read}
 use Rattle.field.specs.Packing.{Elements, pack, packedLength, unpack}
 use Rattle.field.proofs.Packing.{length-pack, length-unpack, unpack-elements, unpack-pack}
 use Rattle.sets.specs.Sets.{S, secretKeyLength, publicKeyLength}
@@ -19,7 +19,7 @@ use Rattle.forms.specs.Circuit.{evalCircuit, Consistent}
 use Rattle.forms.proofs.Sampling.{length-expandElements, expandElements-elements}
 use Rattle.forms.proofs.Circuit.{Equations, ElementConstants, evalCircuit-t, evalCircuit-y, length-evaluate, length-affine, evaluate-elements, affine-elements, expandCircuit-equations, expandCircuit-elements}
 use Rattle.biscuit.specs.Keys.{SecretKey, PublicKey, circuit, secretOf, keyGen, secretBytes, publicBytes, publicOf, secretKey, publicKey, packedSecret, secretKeyOf, publicKeyOf, consistent, consistentKey, publicHalf}
-use Rattle.biscuit.proofs.Repeated.{stands-self, stands-read, append-elements, take-elements, drop-elements}
+use Rattle.biscuit.proofs.Repeated.{append-elements, take-elements, drop-elements}
 
 -- a key whose parts have their sizes
 pub record SizedKey (P : Params) (key : SecretKey) : Type 0 where

@@ -6,16 +6,15 @@ use Prim.Native.Nat.{ℕ, _+_, _-_, _*_, _≤_, _<_}
 use native.Mathlib.Nat.{zero-add}
 use native.Mathlib.Omega.{arith}
 use lib.ListN.{length, getD, take, drop}
-use Rattle.memory.specs.Lists.{StandsAt}
 use Rattle.memory.specs.Sections.{pieces}
-use Rattle.memory.proofs.Stands.{stands-left, stands-right}
+use Rattle.memory.proofs.Stands.{StandsAt, stands-self, stands-within, stands-left, stands-right, stands-read, stands-drop}
 use Rattle.memory.proofs.Sections.{pieces-flatten, length-flatten}
 use Rattle.field.specs.Packing.{pack, packedLength, unpack}
 use Rattle.field.proofs.Packing.{length-pack, unpack-same, nib-append-left, unpack-pack}
 use Rattle.sets.specs.Sets.{S}
 use Rattle.sets.specs.declared.Params.{Params}
 use Rattle.biscuit.specs.Signature.{Opening, Signature, repeated, shown, vectors, written, headLength, shownLength, shownAt, packingAt, vectorCount, packedVectors, openingOf, extracted}
-use Rattle.biscuit.proofs.Repeated.{stands-self, stands-within, stands-read, stands-drop, repeated-stands}
+use Rattle.biscuit.proofs.Repeated.{repeated-stands}
 use Rattle.biscuit.proofs.Written.{SizedOpening, SizedSignature, length-shown, length-pair, length-pairs, length-vectors, vectors-elements, length-body}
 
 -- two signatures that agree in all that is laid out

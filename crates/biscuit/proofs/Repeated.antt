@@ -1,43 +1,18 @@
 -- Repetitions laid one behind the other: how long they are together, where each of them stands, and that they go by their values from 1 to τ alone.
--- Here too are the steps of reading a layout that the crate memory lacks. Assumes nothing.
+-- Assumes nothing.
 use mathlib.Core.Path.{_≡_, refl, sym, ap, ap₂, _∙_, subst}
 use mathlib.Core.List.{List, _++_}
 use Prim.Native.Nat.{ℕ, zero, suc, _+_, _-_, _*_, _≤_, _<_}
-use native.Mathlib.Nat.{zero-add, add-zero, add-assoc, suc-mul, zero-mul}
+use native.Mathlib.Nat.{add-zero, suc-mul, zero-mul}
 use native.Mathlib.Decide.{decLt}
 use native.Mathlib.Numerals.{add-one}
 use native.Mathlib.Omega.{arith}
-use lib.ListN.{length, getD, take, drop, length-append, length-take, take-append-drop, List·getD-append, List·getD-eq-default}
-use lib.Seq.{drop-drop, getD-append-add, getD-take, getD-drop}
-use Rattle.memory.specs.Lists.{StandsAt}
+use lib.ListN.{length, getD, take, drop, length-append, length-take, List·getD-append, List·getD-eq-default}
+use lib.Seq.{getD-append-add, getD-take, getD-drop}
 use Rattle.memory.proofs.Lists.{room}
-use Rattle.memory.proofs.Stands.{stands-before, stands-behind, stands-joined, stands-part}
+use Rattle.memory.proofs.Stands.{StandsAt, stands-self, stands-before, stands-behind, stands-joined}
 use Rattle.field.specs.Packing.{Elements}
 use Rattle.biscuit.specs.Signature.{repeated}
-
--- ---- what stands in a list
-
-pub stands-self : (x : List ℕ) → StandsAt x 0 x
-stands-self x = record { fits = omega arith; entry = λ i h. ap (λ (k : ℕ). getD x k 0) (zero-add i) }
-
--- what stands in a part stands in the whole
-pub stands-within : (x : List ℕ) (k : ℕ) (u : List ℕ) (j : ℕ) (v : List ℕ) → StandsAt x k u → StandsAt u j v → StandsAt x (k + j) v
-stands-within x k u j v s t = record {
-  fits = (let a = s .fits in let b = t .fits in omega arith);
-  entry = λ i h.
-      ap (λ (n : ℕ). getD x n 0) (add-assoc k j i) ∙ s .entry (j + i) (let b = t .fits in omega arith) ∙ t .entry i h;
-}
-
--- what stands somewhere is read there
-pub stands-read : (x : List ℕ) (k : ℕ) (v : List ℕ) (n : ℕ) → length v ≡ n → StandsAt x k v → take n (drop k x) ≡ v
-stands-read x k v n e s = ap (λ (m : ℕ). take m (drop k x)) (sym e) ∙ stands-part x k v s
-
--- from there on the list begins with it
-pub stands-drop : (x : List ℕ) (k : ℕ) (v : List ℕ) → StandsAt x k v → drop k x ≡ v ++ drop (k + length v) x
-stands-drop x k v s =
-    sym (take-append-drop (length v) (drop k x)) ∙ ap₂ (λ (a b : List ℕ). a ++ b) (stands-part x k v s) (drop-drop (length v) k x)
-
--- ---- repetitions
 
 -- the w of repetition e among those of τ repetitions
 pub among : (e τ w : ℕ) → 1 ≤ e → e ≤ τ → (e - 1) * w + w ≤ τ * w

@@ -11,9 +11,14 @@ use borrow.Author.Tests.{eq-eqb, ne-eqb}
 use lib.Dec.{eqb}
 use lib.ListN.{length, getD}
 use lib.Seq.{ext-getD}
+use Rattle.memory.specs.Lists.{table}
 use Rattle.memory.proofs.Lists.{length-table, getD-table}
-use Rattle.field.specs.Packing.{Bytes, pack, packedLength, nib, unpack, strayCleared}
+use Rattle.field.specs.Packing.{Bytes, pack, packedLength, nib, unpack}
 use Rattle.field.proofs.Packing.{Low, High, low-or-high, nib-low, nib-high, nib-even, nib-odd, length-pack, byte-pack, length-unpack, getD-unpack, getD-unpack-past, unpack-same}
+
+-- the bytes of n elements with the half byte behind an odd last element set to zero: that byte keeps its low four bits
+unfoldable pub strayCleared : ℕ → List ℕ → List ℕ
+strayCleared n bytes = table (packedLength n) (λ i. cond (eqb (i * 2 + 1) n) (getD bytes i 0 % 16) (getD bytes i 0))
 
 -- the byte at a place, where it is not that of an odd last element, and where it is
 stray-byte : (n : ℕ) (b : List ℕ) (i : ℕ) → i < packedLength n → ((i * 2 + 1 ≡ n) → ⊥)

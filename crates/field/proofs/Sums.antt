@@ -11,46 +11,46 @@ use Rattle.memory.proofs.Bits.{xor-assoc}
 use Rattle.memory.proofs.Bytes.{take-table}
 use Rattle.memory.proofs.Lists.{getD-table}
 use Rattle.field.specs.Field.{mul}
-use Rattle.field.specs.Sums.{sumOf}
+use Rattle.field.specs.Sums.{dotOf}
 use Rattle.field.specs.Vectors.{_!_, dot}
 use Rattle.field.proofs.Laws.{mul-zero-r}
 use Rattle.field.proofs.Vectors.{dot-take-suc}
 
-pub sumOf-suc : (n : ℕ) (f g : ℕ → ℕ) → sumOf (suc n) f g ≡ bitXor (sumOf n f g) (mul (f n) (g n))
-unfolding sumOf
-sumOf-suc n f g = refl
+pub dotOf-suc : (n : ℕ) (f g : ℕ → ℕ) → dotOf (suc n) f g ≡ bitXor (dotOf n f g) (mul (f n) (g n))
+unfolding dotOf
+dotOf-suc n f g = refl
 
-pub sumOf-same : (n : ℕ) (f f′ g g′ : ℕ → ℕ) → ((i : ℕ) → i < n → f i ≡ f′ i) → ((i : ℕ) → i < n → g i ≡ g′ i) → sumOf n f g ≡ sumOf n f′ g′
-unfolding sumOf
-sumOf-same zero f f′ g g′ hf hg = refl
-sumOf-same (suc n) f f′ g g′ hf hg =
-    ap₂ bitXor (sumOf-same n f f′ g g′ (λ i h. hf i (omega arith)) (λ i h. hg i (omega arith)))
+pub dotOf-same : (n : ℕ) (f f′ g g′ : ℕ → ℕ) → ((i : ℕ) → i < n → f i ≡ f′ i) → ((i : ℕ) → i < n → g i ≡ g′ i) → dotOf n f g ≡ dotOf n f′ g′
+unfolding dotOf
+dotOf-same zero f f′ g g′ hf hg = refl
+dotOf-same (suc n) f f′ g g′ hf hg =
+    ap₂ bitXor (dotOf-same n f f′ g g′ (λ i h. hf i (omega arith)) (λ i h. hg i (omega arith)))
     (ap₂ mul (hf n (omega arith)) (hg n (omega arith)))
 
 -- m products and n more
-pub sumOf-add : (m n : ℕ) (f g : ℕ → ℕ) → sumOf (m + n) f g ≡ bitXor (sumOf m f g) (sumOf n (λ i. f (m + i)) (λ i. g (m + i)))
-unfolding sumOf
-sumOf-add m zero f g = ap (λ (k : ℕ). sumOf k f g) (add-zero m) ∙ sym (xor-zero-r (sumOf m f g))
-sumOf-add m (suc n) f g =
-    ap (λ (k : ℕ). sumOf k f g) (add-suc m n)
-    ∙ ap (λ (x : ℕ). bitXor x (mul (f (m + n)) (g (m + n)))) (sumOf-add m n f g)
-    ∙ xor-assoc (sumOf m f g) (sumOf n (λ i. f (m + i)) (λ i. g (m + i))) (mul (f (m + n)) (g (m + n)))
+pub dotOf-add : (m n : ℕ) (f g : ℕ → ℕ) → dotOf (m + n) f g ≡ bitXor (dotOf m f g) (dotOf n (λ i. f (m + i)) (λ i. g (m + i)))
+unfolding dotOf
+dotOf-add m zero f g = ap (λ (k : ℕ). dotOf k f g) (add-zero m) ∙ sym (xor-zero-r (dotOf m f g))
+dotOf-add m (suc n) f g =
+    ap (λ (k : ℕ). dotOf k f g) (add-suc m n)
+    ∙ ap (λ (x : ℕ). bitXor x (mul (f (m + n)) (g (m + n)))) (dotOf-add m n f g)
+    ∙ xor-assoc (dotOf m f g) (dotOf n (λ i. f (m + i)) (λ i. g (m + i))) (mul (f (m + n)) (g (m + n)))
 
 -- where every second factor is 0
-pub sumOf-zero : (n : ℕ) (f g : ℕ → ℕ) → ((i : ℕ) → i < n → g i ≡ 0) → sumOf n f g ≡ 0
-unfolding sumOf
-sumOf-zero zero f g h = refl
-sumOf-zero (suc n) f g h =
-    ap₂ bitXor (sumOf-zero n f g (λ i k. h i (omega arith))) (ap (mul (f n)) (h n (omega arith)) ∙ mul-zero-r (f n))
+pub dotOf-zero : (n : ℕ) (f g : ℕ → ℕ) → ((i : ℕ) → i < n → g i ≡ 0) → dotOf n f g ≡ 0
+unfolding dotOf
+dotOf-zero zero f g h = refl
+dotOf-zero (suc n) f g h =
+    ap₂ bitXor (dotOf-zero n f g (λ i k. h i (omega arith))) (ap (mul (f n)) (h n (omega arith)) ∙ mul-zero-r (f n))
 
 -- products from n on count for nothing where the second factors are 0 there
-pub sumOf-stop : (n k : ℕ) (f g : ℕ → ℕ) → n ≤ k → ((i : ℕ) → n ≤ i → g i ≡ 0) → sumOf k f g ≡ sumOf n f g
-sumOf-stop n k f g h z =
+pub dotOf-stop : (n k : ℕ) (f g : ℕ → ℕ) → n ≤ k → ((i : ℕ) → n ≤ i → g i ≡ 0) → dotOf k f g ≡ dotOf n f g
+dotOf-stop n k f g h z =
     let e : k ≡ n + (k - n) = omega arith in
-    ap (λ (j : ℕ). sumOf j f g) e
-    ∙ sumOf-add n (k - n) f g
-    ∙ ap (bitXor (sumOf n f g)) (sumOf-zero (k - n) (λ i. f (n + i)) (λ i. g (n + i)) (λ i l. z (n + i) (omega arith)))
-    ∙ xor-zero-r (sumOf n f g)
+    ap (λ (j : ℕ). dotOf j f g) e
+    ∙ dotOf-add n (k - n) f g
+    ∙ ap (bitXor (dotOf n f g)) (dotOf-zero (k - n) (λ i. f (n + i)) (λ i. g (n + i)) (λ i l. z (n + i) (omega arith)))
+    ∙ xor-zero-r (dotOf n f g)
 
 -- the product of a row, given by its rule, and a vector
 dot-table-suc : (n : ℕ) (f : ℕ → ℕ) (s : List ℕ) → dot (table (suc n) f) s ≡ bitXor (dot (table n f) s) (mul (f n) (s ! n))
@@ -60,11 +60,11 @@ dot-table-suc n f s =
     ∙ dot-take-suc r s n
     ∙ ap₂ (λ (l : List ℕ) (c : ℕ). bitXor (dot l s) (mul c (s ! n))) (take-table n (suc n) f (omega arith)) (getD-table (suc n) f n (omega arith))
 
-pub dot-sumOf : (n : ℕ) (f : ℕ → ℕ) (s : List ℕ) → dot (table n f) s ≡ sumOf n f (λ i. s ! i)
-unfolding sumOf table dot
-dot-sumOf zero f s = refl
-dot-sumOf (suc n) f s = dot-table-suc n f s ∙ ap (λ (x : ℕ). bitXor x (mul (f n) (s ! n))) (dot-sumOf n f s)
+pub dot-table : (n : ℕ) (f : ℕ → ℕ) (s : List ℕ) → dot (table n f) s ≡ dotOf n f (λ i. s ! i)
+unfolding dotOf table dot
+dot-table zero f s = refl
+dot-table (suc n) f s = dot-table-suc n f s ∙ ap (λ (x : ℕ). bitXor x (mul (f n) (s ! n))) (dot-table n f s)
 
-pub sumOf-two : (f g : ℕ → ℕ) → sumOf 2 f g ≡ bitXor (mul (f 0) (g 0)) (mul (f 1) (g 1))
-unfolding sumOf
-sumOf-two f g = ap (λ (x : ℕ). bitXor x (mul (f 1) (g 1))) (xor-zero-l (mul (f 0) (g 0)))
+pub dotOf-two : (f g : ℕ → ℕ) → dotOf 2 f g ≡ bitXor (mul (f 0) (g 0)) (mul (f 1) (g 1))
+unfolding dotOf
+dotOf-two f g = ap (λ (x : ℕ). bitXor x (mul (f 1) (g 1))) (xor-zero-l (mul (f 0) (g 0)))

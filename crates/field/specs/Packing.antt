@@ -2,9 +2,7 @@
 -- An odd last element leaves four zero bits when written, and a reader ignores them.
 -- Assumes nothing.
 use mathlib.Core.List.{List, [], _∷_}
-use mathlib.Core.Bool.{cond}
 use Prim.Native.Nat.{ℕ, _+_, _*_, _/_, _%_, _^_, _<_}
-use lib.Dec.{eqb}
 use lib.ListN.{getD}
 use Rattle.memory.specs.Lists.{table}
 
@@ -33,7 +31,3 @@ nib bytes i = getD bytes (i / 2) 0 / 16 ^ (i % 2) % 16
 -- the first n elements that a list of bytes holds
 unfoldable pub unpack : ℕ → List ℕ → List ℕ
 unpack n bytes = table n (nib bytes)
-
--- the bytes of n elements with the half byte behind an odd last element set to zero: that byte keeps its low four bits
-unfoldable pub strayCleared : ℕ → List ℕ → List ℕ
-strayCleared n bytes = table (packedLength n) (λ i. cond (eqb (i * 2 + 1) n) (getD bytes i 0 % 16) (getD bytes i 0))

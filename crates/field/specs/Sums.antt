@@ -5,6 +5,6 @@ use lib.Bits.{bitXor}
 use Rattle.field.specs.Field.{mul}
 
 -- the sum of the n products f i · g i
-unfoldable pub sumOf : ℕ → (ℕ → ℕ) → (ℕ → ℕ) → ℕ
-sumOf zero f g = 0
-sumOf (suc n) f g = bitXor (sumOf n f g) (mul (f n) (g n))
+unfoldable pub dotOf : ℕ → (ℕ → ℕ) → (ℕ → ℕ) → ℕ
+dotOf zero f g = 0
+dotOf (suc n) f g = bitXor (dotOf n f g) (mul (f n) (g n))

@@ -42,8 +42,7 @@ pub fn pack_into(elements: &[u8], out: &mut [u8])
 fn fitting(n: usize, room: usize) -> usize
     ensures { λ r. ⌜ r ≡ min (packedLength n) room ⌝ }
 {
-    let all = n / 2 + n % 2;
-    if all < room { all } else { room }
+    memory::lesser(n / 2 + n % 2, room)
 }
 
 // The i-th byte of the packed elements.

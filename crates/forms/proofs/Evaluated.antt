@@ -12,10 +12,10 @@ use Rattle.memory.proofs.Xors.{getD-zeros}
 use Rattle.field.specs.Field.{mul}
 use Rattle.field.specs.Packing.{packedLength, nib, unpack}
 use Rattle.field.specs.ProductTable.{ProductTable}
-use Rattle.field.specs.Sums.{sumOf}
+use Rattle.field.specs.Sums.{dotOf}
 use Rattle.field.specs.Vectors.{_!_, _⊕_, _⊙_, dot}
 use Rattle.field.proofs.Packing.{nib-drop, length-unpack}
-use Rattle.field.proofs.Sums.{sumOf-suc, sumOf-same, dot-sumOf}
+use Rattle.field.proofs.Sums.{dotOf-suc, dotOf-same, dot-table}
 use Rattle.field.proofs.Vectors.{⊕-at, length-⊕}
 use Rattle.forms.specs.Circuit.{Circuit, affineLength, affine, evalCircuit}
 use Rattle.forms.specs.Room.{affineIn, circuitIn, HoldsCircuit}
@@ -23,17 +23,17 @@ use Rattle.forms.proofs.Circuit.{Forms, affine-at, length-affine}
 use Rattle.forms.proofs.Room.{constant-in, row-in, length-rows-in}
 
 -- a row that stands in the bytes, times a vector
-pub row-dot : (bytes : List ℕ) (row n : ℕ) (s : List ℕ) → dot (unpack n (drop row bytes)) s ≡ sumOf n (λ j. nib bytes (row * 2 + j)) (λ j. s ! j)
+pub row-dot : (bytes : List ℕ) (row n : ℕ) (s : List ℕ) → dot (unpack n (drop row bytes)) s ≡ dotOf n (λ j. nib bytes (row * 2 + j)) (λ j. s ! j)
 unfolding unpack
 row-dot bytes row n s =
-    dot-sumOf n (nib (drop row bytes)) s
-    ∙ sumOf-same n (nib (drop row bytes)) (λ j. nib bytes (row * 2 + j)) (λ j. s ! j) (λ j. s ! j) (λ j h. nib-drop row bytes j) (λ j h. refl)
+    dot-table n (nib (drop row bytes)) s
+    ∙ dotOf-same n (nib (drop row bytes)) (λ j. nib bytes (row * 2 + j)) (λ j. s ! j) (λ j. s ! j) (λ j h. nib-drop row bytes j) (λ j h. refl)
 
 -- one product more, from the table
-pub sum-more : (products : List ℕ) → ProductTable products → (n sum a b : ℕ) (f g : ℕ → ℕ) → sum ≡ sumOf n f g → a ≡ f n → b ≡ g n
-    → bitXor sum (getD products (a % 16 * 16 + b % 16) 0) ≡ sumOf (n + 1) f g
+pub sum-more : (products : List ℕ) → ProductTable products → (n sum a b : ℕ) (f g : ℕ → ℕ) → sum ≡ dotOf n f g → a ≡ f n → b ≡ g n
+    → bitXor sum (getD products (a % 16 * 16 + b % 16) 0) ≡ dotOf (n + 1) f g
 sum-more products table n sum a b f g e ea eb =
-    ap₂ bitXor e (table .entry a b ∙ ap₂ mul ea eb) ∙ sym (sumOf-suc n f g) ∙ ap (λ (k : ℕ). sumOf k f g) (sym (add-one n))
+    ap₂ bitXor e (table .entry a b ∙ ap₂ mul ea eb) ∙ sym (dotOf-suc n f g) ∙ ap (λ (k : ℕ). dotOf k f g) (sym (add-one n))
 
 -- ---- a table of affine forms in the bytes
 

@@ -1,7 +1,7 @@
 // The values of affine forms at one vector, an element to a byte, by single products from the table.
 use memory::wide;
 ghost use mathlib.Core.Path.{_≡_};
-ghost use Prim.Native.Nat.{_+_, _*_, _≤_, _<_};
+ghost use Prim.Native.Nat.{_+_, _*_, _≤_};
 ghost use lib.Bits.{bitXor};
 ghost use lib.ListN.{length, drop};
 ghost use Rattle.field.specs.Packing.{nib, unpack};

@@ -1,37 +1,11 @@
 // The permutation Keccak-f[1600] of FIPS 202, section 3, on the 25 lanes of a state array: Lane(x, y) stands at place 5y + x.
 // Between the rounds six lanes are kept turned over, which spares χ all but five of its 25 complements. Each step of a round is a function.
 // Nothing here branches on a lane or reads at a place that a lane gives.
+mod table;
+
 ghost use mathlib.Core.Path.{_≡_};
 ghost use Rattle.keccak.specs.Keccak.{θ, ρ, π, χ, keccakF};
 ghost use Rattle.keccak.specs.Lanes.{listed, keyed, turned, kept, mixed, moved};
-
-// The constants of ι, in the order of the rounds: 3.2.5, algorithm 6.
-const ROUND_CONSTANTS: [u64; 24] = [
-    0x0000_0000_0000_0001,
-    0x0000_0000_0000_8082,
-    0x8000_0000_0000_808a,
-    0x8000_0000_8000_8000,
-    0x0000_0000_0000_808b,
-    0x0000_0000_8000_0001,
-    0x8000_0000_8000_8081,
-    0x8000_0000_0000_8009,
-    0x0000_0000_0000_008a,
-    0x0000_0000_0000_0088,
-    0x0000_0000_8000_8009,
-    0x0000_0000_8000_000a,
-    0x0000_0000_8000_808b,
-    0x8000_0000_0000_008b,
-    0x8000_0000_0000_8089,
-    0x8000_0000_0000_8003,
-    0x8000_0000_0000_8002,
-    0x8000_0000_0000_0080,
-    0x0000_0000_0000_800a,
-    0x8000_0000_8000_000a,
-    0x8000_0000_8000_8081,
-    0x8000_0000_0000_8080,
-    0x0000_0000_8000_0001,
-    0x8000_0000_8000_8008,
-];
 
 // The 25 lanes of a state, each a number of its own, in the order of the state.
 struct Lanes(
@@ -126,7 +100,7 @@ pub fn permute(a: [u64; 25]) -> [u64; 25]
 fn rounds(a: Lanes) -> Lanes
     ensures { λ r. ⌜ listed r ≡ keccakF (listed a) ⌝ }
 {
-    let constants = ROUND_CONSTANTS;
+    let constants = table::ROUND_CONSTANTS;
     let mut s = turn_over(a);
     let mut i = 0;
     while i < 12 {

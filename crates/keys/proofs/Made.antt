@@ -13,7 +13,7 @@ use Rattle.memory.proofs.Stores.{over-whole}
 use Rattle.field.specs.Packing.{pack, packedLength, unpack}
 use Rattle.field.proofs.Packing.{length-pack}
 use Rattle.vectors.specs.Elements.{elementsPut}
-use Rattle.vectors.proofs.Elements.{elements-put-next, elements-put-zeros}
+use Rattle.vectors.proofs.Writing.{elements-put-next, elements-put-zeros}
 use Rattle.sponge.specs.Sponge.{shake256}
 use Rattle.sets.specs.Sets.{S, secretKeyLength, publicKeyLength}
 use Rattle.sets.specs.declared.Params.{Params}

@@ -10,9 +10,9 @@ use Rattle.memory.proofs.Bits.{xor-assoc}
 use Rattle.memory.proofs.Entries.{entry-more}
 use Rattle.field.specs.Field.{mul}
 use Rattle.field.specs.Packing.{nib}
-use Rattle.field.specs.Sums.{sumOf}
+use Rattle.field.specs.Sums.{dotOf}
 use Rattle.field.proofs.Packing.{nib-even, nib-odd, nib-take, nib-drop}
-use Rattle.field.proofs.Sums.{sumOf-same, sumOf-add, sumOf-two}
+use Rattle.field.proofs.Sums.{dotOf-same, dotOf-add, dotOf-two}
 use Rattle.lanes.specs.Lanes.{lane}
 use Rattle.lanes.proofs.Laws.{lane-xor}
 use Rattle.linear.specs.Rows.{PairValue, PairsOf, PairsFrom, RowAdded, RowsAdded}
@@ -36,10 +36,10 @@ row-byte bytes s sums i a x p pairs small pick q h =
     (ap (lane q) pick
     ∙ pairs b small q h
     ∙ ap₂ bitXor (ap₂ (λ (c k : ℕ). mul c (lane q (getD s k 0))) low (sym (add-zero a))) (ap (λ (c : ℕ). mul c (g 1)) high)
-    ∙ sym (sumOf-two f g))
+    ∙ sym (dotOf-two f g))
 
 pub row-none : (bytes : List ℕ) (i : ℕ) (s : List ℕ) (a x : ℕ) → RowAdded bytes i s a 0 x x
-unfolding RowAdded sumOf
+unfolding RowAdded dotOf
 row-none bytes i s a x q h = sym (xor-zero-r (lane q x))
 
 -- a part of the bytes that is a row's, as it is lent
@@ -51,7 +51,7 @@ row-lent bytes from n s a x r row q h =
     let g : ℕ → ℕ = λ j. lane q (getD s (a + j) 0) in
     row q h
     ∙ ap (bitXor (lane q x))
-    (sumOf-same (n * 2) (λ j. nib part (0 + j)) (λ j. nib bytes (from * 2 + j)) g g
+    (dotOf-same (n * 2) (λ j. nib part (0 + j)) (λ j. nib bytes (from * 2 + j)) g g
     (λ j k. ap (nib part) (zero-add j) ∙ nib-take (from + n - from) (drop from bytes) j (omega arith) ∙ nib-drop from bytes j) (λ j k. refl))
 
 -- ---- one row more, and a block of columns more
@@ -76,10 +76,10 @@ row-then bytes i s a m n x y z first second q h =
     let g : ℕ → ℕ = λ j. lane q (getD s (a + j) 0) in
     second q h
     ∙ ap₂ bitXor (first q h)
-    (sumOf-same n (λ j. nib bytes (i + m + j)) (λ j. f (m + j)) (λ j. lane q (getD s (a + m + j) 0)) (λ j. g (m + j))
+    (dotOf-same n (λ j. nib bytes (i + m + j)) (λ j. f (m + j)) (λ j. lane q (getD s (a + m + j) 0)) (λ j. g (m + j))
     (λ j k. ap (nib bytes) (add-assoc i m j)) (λ j k. ap (λ (p : ℕ). lane q (getD s p 0)) (add-assoc a m j)))
-    ∙ xor-assoc (lane q x) (sumOf m f g) (sumOf n (λ j. f (m + j)) (λ j. g (m + j)))
-    ∙ ap (bitXor (lane q x)) (sym (sumOf-add m n f g))
+    ∙ xor-assoc (lane q x) (dotOf m f g) (dotOf n (λ j. f (m + j)) (λ j. g (m + j)))
+    ∙ ap (bitXor (lane q x)) (sym (dotOf-add m n f g))
 
 -- the byte i picks from its pair's sums what is added next
 pub row-next : (bytes s sums : List ℕ) (a i x sum p : ℕ) → PairsOf (getD s (a + i * 2) 0) (getD s (a + i * 2 + 1) 0) sums → getD bytes i 0 < 256

@@ -10,9 +10,9 @@ use lib.ListN.{length, getD, drop, replicate, List·getD-eq-default}
 use lib.Seq.{drop-drop}
 use Rattle.memory.proofs.Xors.{getD-zeros}
 use Rattle.field.specs.Packing.{packedLength, nib, unpack}
-use Rattle.field.specs.Sums.{sumOf}
+use Rattle.field.specs.Sums.{dotOf}
 use Rattle.field.specs.Vectors.{_!_, dot}
-use Rattle.field.proofs.Sums.{sumOf-same, sumOf-stop}
+use Rattle.field.proofs.Sums.{dotOf-same, dotOf-stop}
 use Rattle.lanes.specs.Lanes.{lane, Holds}
 use Rattle.lanes.proofs.Laws.{lane-zero}
 use Rattle.forms.specs.Circuit.{Circuit, affineLength, linear}
@@ -28,14 +28,14 @@ use Rattle.linear.proofs.Strands.{length-strand, strand-zeros}
 module _ (bytes : List ℕ) (n m : ℕ) (words : List ℕ) (share : ℕ → List ℕ) (size : length words ≡ n) (shares : Holds (λ q i. share q ! i) words) where
   -- the words past the last share are 0, and so count for nothing
   row-share : (row count q : ℕ) → n ≤ count → q < 16
-      → sumOf count (λ j. nib bytes (row * 2 + j)) (λ j. lane q (getD words (0 + j) 0)) ≡ dot (unpack n (drop row bytes)) (share q)
+      → dotOf count (λ j. nib bytes (row * 2 + j)) (λ j. lane q (getD words (0 + j) 0)) ≡ dot (unpack n (drop row bytes)) (share q)
   unfolding Holds
   row-share row count q h hq =
       let f : ℕ → ℕ = λ j. nib bytes (row * 2 + j) in
       let g : ℕ → ℕ = λ j. lane q (getD words (0 + j) 0) in
-      sumOf-stop n count f g h
+      dotOf-stop n count f g h
       (λ i k. ap (lane q) (List·getD-eq-default words 0 (outside i k)) ∙ lane-zero q)
-      ∙ sumOf-same n f f g (λ j. share q ! j) (λ j k. refl)
+      ∙ dotOf-same n f f g (λ j. share q ! j) (λ j k. refl)
       (λ j k. ap (λ (i : ℕ). lane q (getD words i 0)) (zero-add j) ∙ shares j q (omega arith) hq)
       ∙ sym (row-dot bytes row n (share q))
     where
@@ -54,8 +54,8 @@ module _ (bytes : List ℕ) (n m : ℕ) (words : List ℕ) (share : ℕ → List
       let f : ℕ → ℕ = λ i. nib bytes ((first + k * width) * 2 + i) in
       let g : ℕ → ℕ = λ i. lane q (getD words (0 + i) 0) in
       rows k (omega arith) q hq
-      ∙ ap (λ (v : ℕ). bitXor v (sumOf (width * 2) f g)) (ap (λ (l : List ℕ). lane q (getD l k 0)) z ∙ ap (lane q) (getD-zeros j k) ∙ lane-zero q)
-      ∙ xor-zero-l (sumOf (width * 2) f g)
+      ∙ ap (λ (v : ℕ). bitXor v (dotOf (width * 2) f g)) (ap (λ (l : List ℕ). lane q (getD l k 0)) z ∙ ap (lane q) (getD-zeros j k) ∙ lane-zero q)
+      ∙ xor-zero-l (dotOf (width * 2) f g)
       ∙ row-share (first + k * width) (width * 2) q (omega arith) hq
       ∙ ap (λ (row : List ℕ). dot row (share q))
       (sym (row-in n m (drop start bytes) k (omega arith)

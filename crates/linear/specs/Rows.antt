@@ -7,7 +7,7 @@ use lib.Bits.{bitXor}
 use lib.ListN.{length, getD}
 use Rattle.field.specs.Field.{mul}
 use Rattle.field.specs.Packing.{nib}
-use Rattle.field.specs.Sums.{sumOf}
+use Rattle.field.specs.Sums.{dotOf}
 use Rattle.lanes.specs.Lanes.{lane}
 
 -- x is in each lane the sum of u and v times the two coefficients in the byte b
@@ -32,7 +32,7 @@ pub record Spread (n w : ℕ) (old new : List ℕ) : Type 0 where
 -- `new` is `old` with, in each lane, the sum of `count` coefficients, from the half byte i of the bytes on, times the words from the place a of s on
 unfoldable pub RowAdded : List ℕ → ℕ → List ℕ → ℕ → ℕ → ℕ → ℕ → Type 0
 RowAdded bytes i s a count old new =
-    (q : ℕ) → q < 16 → lane q new ≡ bitXor (lane q old) (sumOf count (λ j. nib bytes (i + j)) (λ j. lane q (getD s (a + j) 0)))
+    (q : ℕ) → q < 16 → lane q new ≡ bitXor (lane q old) (dotOf count (λ j. nib bytes (i + j)) (λ j. lane q (getD s (a + j) 0)))
 
 -- the words `new` are `old` with a row added to each; the rows stand `width` bytes apart, from the byte `start` on
 unfoldable pub RowsAdded : List ℕ → ℕ → ℕ → List ℕ → ℕ → ℕ → List ℕ → List ℕ → Type 0

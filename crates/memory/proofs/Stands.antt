@@ -1,21 +1,38 @@
 -- A list that stands in another: the steps that read a layout, with no arithmetic of `take` and `drop` left to the reader.
 -- Assumes nothing.
-use mathlib.Core.Path.{_≡_, sym, ap, _∙_}
+use mathlib.Core.Path.{_≡_, sym, ap, ap₂, _∙_}
 use mathlib.Core.List.{List, _++_}
 use Prim.Native.Nat.{ℕ, _+_, _-_, _≤_, _<_}
 use native.Mathlib.Nat.{zero-add, add-assoc}
 use native.Mathlib.Decide.{decLt}
 use native.Mathlib.Omega.{arith}
-use lib.ListN.{length, getD, take, drop, length-append, length-drop, List·getD-append}
-use lib.Seq.{ext-getD, getD-append-add, getD-take, getD-drop, length-take-le}
-use Rattle.memory.specs.Lists.{StandsAt, put}
+use lib.ListN.{length, getD, take, drop, length-append, length-drop, take-append-drop, List·getD-append}
+use lib.Seq.{ext-getD, drop-drop, getD-append-add, getD-take, getD-drop, length-take-le}
+use Rattle.memory.specs.Lists.{put}
 use Rattle.memory.proofs.Parts.{length-put, getD-put-in}
+
+-- v stands in x from the place k on
+pub record StandsAt (x : List ℕ) (k : ℕ) (v : List ℕ) : Type 0 where
+  pub fits : k + length v ≤ length x
+  pub entry : (i : ℕ) → i < length v → getD x (k + i) 0 ≡ getD v i 0
+
+-- a list stands in itself
+pub stands-self : (x : List ℕ) → StandsAt x 0 x
+stands-self x = record { fits = omega arith; entry = λ i h. ap (λ (k : ℕ). getD x k 0) (zero-add i) }
 
 -- v stands at the start of whatever begins with it
 pub stands-first : (v w : List ℕ) → StandsAt (v ++ w) 0 v
 stands-first v w = record {
   fits = simp length-append (omega arith);
   entry = λ i h. ap (λ (k : ℕ). getD (v ++ w) k 0) (zero-add i) ∙ List·getD-append v w 0 i h;
+}
+
+-- what stands in a part stands in the whole
+pub stands-within : (x : List ℕ) (k : ℕ) (u : List ℕ) (j : ℕ) (v : List ℕ) → StandsAt x k u → StandsAt u j v → StandsAt x (k + j) v
+stands-within x k u j v s t = record {
+  fits = (let a = s .fits in let b = t .fits in omega arith);
+  entry = λ i h.
+      ap (λ (n : ℕ). getD x n 0) (add-assoc k j i) ∙ s .entry (j + i) (let b = t .fits in omega arith) ∙ t .entry i h;
 }
 
 -- a list put before moves it, and one put after does not
@@ -68,7 +85,16 @@ stands-part x k v s =
     count : length (take (length v) (drop k x)) ≡ length v
     count = length-take-le (length v) (drop k x) (let f = s .fits in simp length-drop (omega arith))
 
--- and a part of x stands where it is
+-- what stands somewhere is read there
+pub stands-read : (x : List ℕ) (k : ℕ) (v : List ℕ) (n : ℕ) → length v ≡ n → StandsAt x k v → take n (drop k x) ≡ v
+stands-read x k v n e s = ap (λ (m : ℕ). take m (drop k x)) (sym e) ∙ stands-part x k v s
+
+-- from there on the list begins with it
+pub stands-drop : (x : List ℕ) (k : ℕ) (v : List ℕ) → StandsAt x k v → drop k x ≡ v ++ drop (k + length v) x
+stands-drop x k v s =
+    sym (take-append-drop (length v) (drop k x)) ∙ ap₂ (λ (a b : List ℕ). a ++ b) (stands-part x k v s) (drop-drop (length v) k x)
+
+-- a part of x stands where it is
 pub part-stands : (x : List ℕ) (k n : ℕ) → k + n ≤ length x → StandsAt x k (take n (drop k x))
 part-stands x k n h = record {
   fits = (let e = count in omega arith);

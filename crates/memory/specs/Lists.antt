@@ -2,10 +2,9 @@
 -- Assumes nothing.
 use mathlib.Core.Bool.{Bool, true, false, _&&_}
 use mathlib.Core.List.{List, [], _∷_, _++_}
-use mathlib.Core.Path.{_≡_}
-use Prim.Native.Nat.{ℕ, zero, suc, _+_, _≤_, _<_}
+use Prim.Native.Nat.{ℕ, zero, suc, _+_}
 use lib.Dec.{eqb}
-use lib.ListN.{length, getD, take, drop}
+use lib.ListN.{length, take, drop}
 
 -- the list f 0, f 1, .. of n entries
 unfoldable pub table : ℕ → (ℕ → ℕ) → List ℕ
@@ -26,8 +25,3 @@ same [] [] = true
 same [] (b ∷ y) = false
 same (a ∷ x) [] = false
 same (a ∷ x) (b ∷ y) = eqb a b && same x y
-
--- v stands in x from the place k on
-pub record StandsAt (x : List ℕ) (k : ℕ) (v : List ℕ) : Type 0 where
-  pub fits : k + length v ≤ length x
-  pub entry : (i : ℕ) → i < length v → getD x (k + i) 0 ≡ getD v i 0

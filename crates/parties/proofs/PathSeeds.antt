@@ -4,7 +4,7 @@ use mathlib.Core.Path.{_≡_, _∙_}
 use mathlib.Core.List.{List}
 use Prim.Native.Nat.{ℕ, _-_, _^_, _≤_, _<_}
 use Rattle.tree.specs.Tree.{Children, getSeeds, getPath, getPathSeeds}
-use Rattle.tree.specs.Coded.{coded}
+use Rattle.tree.proofs.Coded.{coded}
 use Rattle.tree.proofs.Theorems.{path-rebuilds-the-others, any-path-hides-one}
 use Rattle.parties.specs.Repetition.{leftOut}
 use Rattle.parties.proofs.Hidden.{hide-leftOut}

@@ -19,7 +19,7 @@ root-end P e s roots f h k es er = among-end e (P .tau) (S P) (rootsAt P) workLe
 -- ---- the packing
 
 -- the bytes of the packing, and what they hold
-packing-holds : (P : Params) → P .tau * (P .n + P .m) + P .tau * P .m ≤ 2 * packedLength (vectorCount P)
+pub packing-holds : (P : Params) → P .tau * (P .n + P .m) + P .tau * P .m ≤ 2 * packedLength (vectorCount P)
 unfolding packedLength vectorCount
 packing-holds P = omega arith
 

@@ -1,34 +1,38 @@
--- Phase 1, repetition after repetition: what the first hash has absorbed and what the packing holds, for every signer that has the secret and the roots. Assumes nothing.
+-- Phase 1, repetition after repetition: what the first hash has absorbed, what the packing holds and what is planted in work; and what this is to a signer that has the secret and the roots. Assumes nothing.
 use mathlib.Core.Path.{_≡_, refl, sym, ap, ap₂, subst, _∙_}
 use mathlib.Core.List.{List, _++_, flatten}
 use Prim.Native.Nat.{ℕ, _+_, _-_, _*_, _≤_, _<_}
-use native.Mathlib.Decide.{decLe}
+use native.Mathlib.Nat.{zero-add}
 use native.Mathlib.Omega.{arith}
-use lib.ListN.{length, take, drop}
+use lib.ListN.{length, take, drop, length-append, length-drop}
+use lib.Seq.{length-take-le}
 use Rattle.memory.specs.Lists.{put}
 use Rattle.memory.specs.Sections.{pieces}
 use Rattle.memory.proofs.Parts.{length-lent}
-use Rattle.field.specs.Packing.{Elements}
+use Rattle.field.specs.Packing.{Elements, Bytes, packedLength}
 use Rattle.sponge.specs.declared.Sponge.{Sponge}
 use Rattle.sponge.specs.Steps.{absorbed}
 use Rattle.sets.specs.Sets.{S}
 use Rattle.sets.specs.declared.Params.{Params}
 use Rattle.tree.specs.Tree.{children, getSeeds}
 use Rattle.parties.specs.Repetition as repetition
+use Rattle.parties.proofs.Corrections.{length-deltaS, length-deltaC}
 use Rattle.parties.proofs.ShareElements.{deltaS-elements, deltaC-elements}
 use Rattle.views.specs.Views.{FirstPhase}
 use Rattle.answers.proofs.Absorbing.{Absorbing, absorbing-none, absorbing-more, absorbing-all}
 use Rattle.refusals.specs.Refusals.{workLength}
-use Rattle.biscuit.specs.Signature.{repeated}
+use Rattle.biscuit.specs.Signature.{repeated, vectorCount}
 use Rattle.biscuit.specs.Sign.{Signer, seeds, coms, deltaS, deltaC, σ₁}
 use Rattle.biscuit.specs.Room.{Fits, LayoutOf, groups, leavesAt, rootsAt}
 use Rattle.biscuit.specs.declared.Layout.{Layout}
 use Rattle.biscuit.proofs.Parts.{length-first}
-use Rattle.biscuit.proofs.Repeated.{among, repeated-more, take-elements}
-use Rattle.vectors.specs.Elements.{elementsAt}
-use Rattle.passes.specs.Passes.{seedsIn, sIn, yIn, HoldsSecret, HoldsRoots, HoldsCorrections, Placed, Kept, Committed}
-use Rattle.passes.proofs.Planting.{planted-part, pieces-seeds}
-use Rattle.passes.proofs.Placing.{elements-below}
+use Rattle.biscuit.proofs.Repeated.{repeated-more, repeated-same, take-elements, append-elements}
+use Rattle.biscuit.proofs.Room.{some-groups}
+use Rattle.vectors.specs.Elements.{elementsAt, elementsPut}
+use Rattle.passes.specs.Passes.{seedsIn, sIn, yIn, HoldsSecret, HoldsRoots, HoldsCorrections, Kept, firstIn, correctionsIn, Committed}
+use Rattle.passes.proofs.Bounds.{packing-holds, corrections-end}
+use Rattle.passes.proofs.Planting.{planted-part, planted-kept, pieces-seeds, count-seeds, Replanted, replanted-none, replanted-roots, replanted-more}
+use Rattle.passes.proofs.Placing.{placed-none, placed-more, placed-read}
 
 -- ---- work
 
@@ -63,21 +67,12 @@ y-part : (P : Params) (secret : List ℕ) → take (P .n + P .m + P .m - (P .n +
 unfolding yIn
 y-part P secret = ap (λ (k : ℕ). take k (drop (P .n + P .m) secret)) (let z : P .n + P .m + P .m - (P .n + P .m) ≡ P .m = omega arith in z)
 
--- the corrections are elements
-pub corrections-secret : (P : Params) (salt : List ℕ) (e : ℕ) (secret y : List ℕ) (seeds : List (List ℕ)) (before after : Sponge) (ds dc : List ℕ) → Elements secret
-    → FirstPhase P salt e (take (P .n - 0) (drop 0 secret)) y seeds before after ds dc → Elements ds
-corrections-secret P salt e secret y seeds before after ds dc h p =
-    subst (λ (v : List ℕ). Elements v) (sym (p .secret)) (deltaS-elements P salt e (take (P .n - 0) (drop 0 secret)) seeds (take-elements (P .n - 0) secret h))
-
-pub corrections-helper : (P : Params) (salt : List ℕ) (e : ℕ) (s y : List ℕ) (seeds : List (List ℕ)) (before after : Sponge) (ds dc : List ℕ)
-    → FirstPhase P salt e s y seeds before after ds dc → Elements dc
-corrections-helper P salt e s y seeds before after ds dc p = subst (λ (v : List ℕ). Elements v) (sym (p .helper)) (deltaC-elements P salt e y seeds)
-
 -- hashed and placed
 pub committed-turn : (P : Params) (salt : List ℕ) (e : ℕ) (secret leaves : List ℕ) (g : ℕ) (before after : Sponge) (ds dc old new : List ℕ) → g ≡ groups P
     → FirstPhase P salt e (take (P .n - 0) (drop 0 secret)) (take (P .n + P .m + P .m - (P .n + P .m)) (drop (P .n + P .m) secret)) (pieces (S P) (16 * g) leaves) before after ds dc
-    → Placed ((e - 1) * (P .n + P .m)) (P .n + P .m) (ds ++ dc) old new
+    → new ≡ elementsPut (ds ++ dc) ((e - 1) * (P .n + P .m)) old
     → Committed P e salt secret (pieces (S P) (16 * groups P) leaves) before after old new
+unfolding firstIn correctionsIn
 committed-turn P salt e secret leaves g before after ds dc old new eg p q =
     let seeds = pieces (S P) (16 * groups P) leaves in
     let es = s-part P secret in
@@ -88,7 +83,7 @@ committed-turn P salt e secret leaves g before after ds dc old new eg p q =
     (subst (λ (k : ℕ). FirstPhase P salt e (take (P .n - 0) (drop 0 secret)) (take (P .n + P .m + P .m - (P .n + P .m)) (drop (P .n + P .m) secret)) (pieces (S P) (16 * k) leaves) before after ds dc) eg p)) in
     record {
       hashed = same .hashed;
-      placed = subst (λ (v : List ℕ). Placed ((e - 1) * (P .n + P .m)) (P .n + P .m) v old new) (ap₂ (λ (a b : List ℕ). a ++ b) (same .secret) (same .helper)) q;
+      placed = q ∙ ap₂ (λ (a b : List ℕ). elementsPut (a ++ b) ((e - 1) * (P .n + P .m)) old) (same .secret) (same .helper);
     }
 
 -- the leaves that were planted are the seeds
@@ -124,22 +119,47 @@ module _ (P : Params) (signer : Signer) (salt secret roots : List ℕ) (held : H
       ap (λ (x : List ℕ). repetition.deltaC P (signer .salt) e x (seeds P signer e)) (held .y)
       ∙ ap₂ (λ (x : List ℕ) (l : List (List ℕ)). repetition.deltaC P x e (yIn P secret) l) (held .salted) seeds-in
 
-  first-in : repetition.first (coms P signer e) (deltaS P signer e) (deltaC P signer e)
-      ≡ repetition.first (repetition.coms P salt e (seedsIn P salt roots e)) (repetition.deltaS P salt e (sIn P secret) (seedsIn P salt roots e)) (repetition.deltaC P salt e (yIn P secret) (seedsIn P salt roots e))
+  first-in : repetition.first (coms P signer e) (deltaS P signer e) (deltaC P signer e) ≡ firstIn P salt secret e (seedsIn P salt roots e)
+  unfolding firstIn
   first-in =
       ap (λ (l : List (List ℕ)). repetition.first l (deltaS P signer e) (deltaC P signer e)) coms-in
       ∙ ap₂ (λ (x y : List ℕ). repetition.first (repetition.coms P salt e (seedsIn P salt roots e)) x y) deltaS-in deltaC-in
 
+  corrections-in : deltaS P signer e ++ deltaC P signer e ≡ correctionsIn P salt secret e (seedsIn P salt roots e)
+  unfolding correctionsIn
+  corrections-in = ap₂ (λ (x y : List ℕ). x ++ y) deltaS-in deltaC-in
+
+-- ---- the corrections of a repetition
+
+correctionsIn-elements : (P : Params) (salt secret : List ℕ) (e : ℕ) (seeds : List (List ℕ)) → Elements secret → Elements (correctionsIn P salt secret e seeds)
+unfolding correctionsIn sIn
+correctionsIn-elements P salt secret e seeds small =
+    append-elements (repetition.deltaS P salt e (take (P .n) secret) seeds) (repetition.deltaC P salt e (yIn P secret) seeds)
+    (deltaS-elements P salt e (take (P .n) secret) seeds (take-elements (P .n) secret small)) (deltaC-elements P salt e (yIn P secret) seeds)
+
+module _ (P : Params) (f : Fits P) (salt secret work : List ℕ) (whole : length secret ≡ P .n + P .m + P .m) (size : length work ≡ workLength) (e : ℕ) (from : 1 ≤ e) (to : e ≤ P .tau) where
+  length-correctionsIn : length (correctionsIn P salt secret e (seedsIn P salt (drop (rootsAt P) work) e)) ≡ P .n + P .m
+  unfolding correctionsIn sIn yIn
+  length-correctionsIn =
+      let seeds = seedsIn P salt (drop (rootsAt P) work) e in
+      let n = count-seeds P f salt work size e from to in
+      let g = some-groups P in
+      let a = length-deltaS P salt e (take (P .n) secret) seeds (length-take-le (P .n) secret (omega arith)) in
+      let b = length-deltaC P salt e (take (P .m) (drop (P .n + P .m) secret)) seeds (omega arith) (length-take-le (P .m) (drop (P .n + P .m) secret) (simp length-drop (omega arith))) in
+      let c = length-append (repetition.deltaS P salt e (take (P .n) secret) seeds) (repetition.deltaC P salt e (take (P .m) (drop (P .n + P .m) secret)) seeds) in
+      omega arith
+
 -- ---- the loop
 
 -- what `count` repetitions have done
-pub record Committing (P : Params) (signer : Signer) (count : ℕ) (before after : Sponge) (packing : List ℕ) : Type 0 where
-  pub absorbing : Absorbing before after (repeated count (λ e. repetition.first (coms P signer e) (deltaS P signer e) (deltaC P signer e))) count
-  pub corrections : HoldsCorrections P signer count packing
+pub record Committing (P : Params) (salt secret first : List ℕ) (count : ℕ) (before after : Sponge) (old packing work : List ℕ) : Type 0 where
+  pub absorbing : Absorbing before after (repeated count (λ e. firstIn P salt secret e (seedsIn P salt (drop (rootsAt P) first) e))) count
+  pub corrections : packing ≡ elementsPut (repeated count (λ e. correctionsIn P salt secret e (seedsIn P salt (drop (rootsAt P) first) e))) 0 old
+  pub planted : Replanted P salt first count work
 
-pub committing-none : (P : Params) (signer : Signer) (s : Sponge) (packing : List ℕ) → Committing P signer 0 s s packing
-unfolding repeated HoldsCorrections
-committing-none P signer s packing = record { absorbing = absorbing-none s; corrections = λ e h k. absurd (omega arith) }
+pub committing-none : (P : Params) (salt secret work : List ℕ) (s : Sponge) (packing : List ℕ) → Bytes packing → Committing P salt secret work 0 s s packing packing work
+unfolding repeated
+committing-none P salt secret work s packing bytes = record { absorbing = absorbing-none s; corrections = placed-none 0 (λ e. correctionsIn P salt secret e (seedsIn P salt (drop (rootsAt P) work) e)) packing bytes; planted = replanted-none P salt work }
 
 -- one repetition more, in what is absorbed
 pub absorbing-repetition : (count : ℕ) (f : ℕ → List ℕ) (s r r′ : Sponge) → Absorbing s r (repeated count f) count → r′ ≡ absorbed r (f (count + 1)) → Absorbing s r′ (repeated (count + 1) f) (count + 1)
@@ -148,36 +168,64 @@ absorbing-repetition count f s r r′ h e =
     (repeated-more count f)
     (absorbing-more s r r′ (repeated count f) (f (count + 1)) count h e)
 
-pub committing-more : (P : Params) (signer : Signer) (count : ℕ) (s r r′ : Sponge) (packing packing′ salt secret roots : List ℕ)
-    → HoldsSecret P signer salt secret → HoldsRoots P signer roots → count < P .tau → Committing P signer count s r packing
-    → Committed P (count + 1) salt secret (seedsIn P salt roots (count + 1)) r r′ packing packing′ → Committing P signer (count + 1) s r′ packing′
-unfolding HoldsCorrections
-committing-more P signer count s r r′ packing packing′ salt secret roots held rooted less done turn = record {
-  absorbing = absorbing-repetition count (λ e. repetition.first (coms P signer e) (deltaS P signer e) (deltaC P signer e)) s r r′ (done .absorbing)
-      (turn .hashed ∙ ap (absorbed r) (sym (first-in P signer salt secret roots held rooted (count + 1) (omega arith) (omega arith))));
-  corrections = λ e h k.
-      elim (decLe e count) as (λ d. elementsAt packing′ ((e - 1) * (P .n + P .m)) (P .n + P .m) ≡ deltaS P signer e ++ deltaC P signer e) [
-        | yes y ↦
-            (let fits = among e count (P .n + P .m) h y in
-            let at : count + 1 - 1 ≡ count = omega arith in
-            let end = ap (λ (i : ℕ). i * (P .n + P .m)) at in
-            elements-below ((count + 1 - 1) * (P .n + P .m)) ((e - 1) * (P .n + P .m)) (P .n + P .m) packing packing′ (turn .placed .below) (omega arith)
-            ∙ done .corrections e h y)
-        | no y ↦
-            (let last : count + 1 ≡ e = omega arith in
-            subst (λ (i : ℕ). elementsAt packing′ ((i - 1) * (P .n + P .m)) (P .n + P .m) ≡ deltaS P signer i ++ deltaC P signer i) last
-            (turn .placed .here
-            ∙ sym (ap₂ (λ (a b : List ℕ). a ++ b) (deltaS-in P signer salt secret roots held rooted (count + 1) (omega arith) (omega arith))
-            (deltaC-in P signer salt secret roots held rooted (count + 1) (omega arith) (omega arith)))))
-      ];
-}
+module _ (P : Params) (f : Fits P) (salt secret first : List ℕ) (whole : length secret ≡ P .n + P .m + P .m) (size : length first ≡ workLength) where
+  pub committing-more : (count : ℕ) (s r r′ : Sponge) (old packing packing′ work work′ : List ℕ) → length old ≡ packedLength (vectorCount P) → count < P .tau
+      → Committing P salt secret first count s r old packing work → Committed P (count + 1) salt secret (seedsIn P salt (drop (rootsAt P) work) (count + 1)) r r′ packing packing′
+      → work′ ≡ put work (leavesAt P) (flatten (seedsIn P salt (drop (rootsAt P) work) (count + 1))) → Committing P salt secret first (count + 1) s r′ old packing′ work′
+  committing-more count s r r′ old packing packing′ work work′ room less done turn leaves =
+      let roots = drop (rootsAt P) first in
+      let same = replanted-roots P salt first count work (done .planted) in
+      let step = subst (λ (x : List ℕ). Committed P (count + 1) salt secret (seedsIn P salt x (count + 1)) r r′ packing packing′) same turn in
+      record {
+        absorbing = absorbing-repetition count (λ e. firstIn P salt secret e (seedsIn P salt roots e)) s r r′ (done .absorbing) (step .hashed);
+        corrections =
+            placed-more 0 (P .n + P .m) count ((count + 1 - 1) * (P .n + P .m)) (λ e. correctionsIn P salt secret e (seedsIn P salt roots e)) old packing packing′
+            (λ e a b. length-correctionsIn P f salt secret first whole size e a (omega arith))
+            (ap (λ (i : ℕ). i * (P .n + P .m)) (let z : count + 1 - 1 ≡ count = omega arith in z) ∙ sym (zero-add (count * (P .n + P .m))))
+            (let e = corrections-end P (count + 1) (omega arith) (omega arith) in
+            let z = ap (λ (i : ℕ). i * (P .n + P .m)) (let z : count + 1 - 1 ≡ count = omega arith in z) in
+            omega arith)
+            (done .corrections) (step .placed);
+        planted = replanted-more P f salt first size count less work work′ (done .planted) leaves;
+      }
 
 -- all of them
-pub committed-all : (P : Params) (signer : Signer) (count : ℕ) (s r : Sponge) (packing : List ℕ) → count ≡ P .tau → 1 ≤ P .tau → Committing P signer count s r packing → r ≡ absorbed s (σ₁ P signer)
-unfolding σ₁
-committed-all P signer count s r packing e some h =
-    absorbing-all s r (repeated count (λ e. repetition.first (coms P signer e) (deltaS P signer e) (deltaC P signer e))) count (omega arith) (h .absorbing)
-    ∙ ap (λ (n : ℕ). absorbed s (repeated n (λ e. repetition.first (coms P signer e) (deltaS P signer e) (deltaC P signer e)))) e
+pub committed-all : (P : Params) (salt secret first : List ℕ) (count : ℕ) (s r : Sponge) (old packing work : List ℕ) → count ≡ P .tau → 1 ≤ P .tau
+    → Committing P salt secret first count s r old packing work → r ≡ absorbed s (repeated (P .tau) (λ e. firstIn P salt secret e (seedsIn P salt (drop (rootsAt P) first) e)))
+committed-all P salt secret first count s r old packing work e some h =
+    absorbing-all s r (repeated count (λ e. firstIn P salt secret e (seedsIn P salt (drop (rootsAt P) first) e))) count (omega arith) (h .absorbing)
+    ∙ ap (λ (n : ℕ). absorbed s (repeated n (λ e. firstIn P salt secret e (seedsIn P salt (drop (rootsAt P) first) e)))) e
 
-pub corrections-all : (P : Params) (signer : Signer) (count : ℕ) (s r : Sponge) (packing : List ℕ) → count ≡ P .tau → Committing P signer count s r packing → HoldsCorrections P signer (P .tau) packing
-corrections-all P signer count s r packing e h = subst (λ (n : ℕ). HoldsCorrections P signer n packing) e (h .corrections)
+pub corrections-all : (P : Params) (salt secret first : List ℕ) (count : ℕ) (s r : Sponge) (old packing work : List ℕ) → count ≡ P .tau
+    → Committing P salt secret first count s r old packing work → packing ≡ elementsPut (repeated (P .tau) (λ e. correctionsIn P salt secret e (seedsIn P salt (drop (rootsAt P) first) e))) 0 old
+corrections-all P salt secret first count s r old packing work e h =
+    h .corrections ∙ ap (λ (n : ℕ). elementsPut (repeated n (λ e. correctionsIn P salt secret e (seedsIn P salt (drop (rootsAt P) first) e))) 0 old) e
+
+pub planted-all : (P : Params) (salt secret first : List ℕ) (count : ℕ) (s r : Sponge) (old packing work : List ℕ) → count ≡ P .tau → 1 ≤ P .tau
+    → Committing P salt secret first count s r old packing work → work ≡ put first (leavesAt P) (flatten (seedsIn P salt (drop (rootsAt P) first) (P .tau)))
+planted-all P salt secret first count s r old packing work e some h =
+    h .planted .leaves (omega arith) ∙ ap (λ (n : ℕ). put first (leavesAt P) (flatten (seedsIn P salt (drop (rootsAt P) first) n))) e
+
+-- ---- what the promise is to a signer that has the secret and the roots
+
+pub absorbed-signed : (P : Params) (salt secret roots : List ℕ) (s r : Sponge) → r ≡ absorbed s (repeated (P .tau) (λ e. firstIn P salt secret e (seedsIn P salt roots e)))
+    → (signer : Signer) → HoldsSecret P signer salt secret → HoldsRoots P signer roots → r ≡ absorbed s (σ₁ P signer)
+unfolding σ₁
+absorbed-signed P salt secret roots s r h signer held rooted =
+    h
+    ∙ ap (absorbed s) (sym (repeated-same (P .tau) (λ e. repetition.first (coms P signer e) (deltaS P signer e) (deltaC P signer e)) (λ e. firstIn P salt secret e (seedsIn P salt roots e))
+    (λ e a b. first-in P signer salt secret roots held rooted e a b)))
+
+pub corrections-signed : (P : Params) → Fits P → (salt secret work old packing : List ℕ) → length secret ≡ P .n + P .m + P .m → Elements secret → length work ≡ workLength
+    → length old ≡ packedLength (vectorCount P) → packing ≡ elementsPut (repeated (P .tau) (λ e. correctionsIn P salt secret e (seedsIn P salt (drop (rootsAt P) work) e))) 0 old
+    → (signer : Signer) → HoldsSecret P signer salt secret → HoldsRoots P signer (drop (rootsAt P) work) → HoldsCorrections P signer (P .tau) packing
+unfolding HoldsCorrections
+corrections-signed P f salt secret work old packing whole small size room h signer held rooted e from to =
+    ap₂ (λ (b : List ℕ) (k : ℕ). elementsAt b k (P .n + P .m)) h (sym (zero-add ((e - 1) * (P .n + P .m))))
+    ∙ placed-read 0 (P .n + P .m) (P .tau) (λ e. correctionsIn P salt secret e (seedsIn P salt (drop (rootsAt P) work) e)) old
+    (λ i a b. length-correctionsIn P f salt secret work whole size i a b) (λ i a b. correctionsIn-elements P salt secret i (seedsIn P salt (drop (rootsAt P) work) i) small)
+    (let b = packing-holds P in omega arith) e from to
+    ∙ sym (corrections-in P signer salt secret (drop (rootsAt P) work) held rooted e from to)
+
+pub kept-planted : (P : Params) → Fits P → (salt work now : List ℕ) → length work ≡ workLength → now ≡ put work (leavesAt P) (flatten (seedsIn P salt (drop (rootsAt P) work) (P .tau))) → Kept P work now
+kept-planted P f salt work now size h = kept-same P work now _ h (planted-kept P f salt work size (P .tau) (f .«repeated») (omega arith))

@@ -1,7 +1,7 @@
--- The leaves of a repetition, put between circuit and room: they are cut into the seeds of the parties again, and nothing else of work has changed. Assumes nothing.
-use mathlib.Core.Path.{_≡_, sym, ap, ap₂, _∙_}
+-- The leaves of a repetition, put between circuit and room: they are cut into the seeds of the parties again, and nothing else of work has changed, repetition after repetition. Assumes nothing.
+use mathlib.Core.Path.{_≡_, refl, sym, ap, ap₂, _∙_}
 use mathlib.Core.List.{List, [], _++_, flatten, append-nil}
-use Prim.Native.Nat.{ℕ, _+_, _-_, _*_, _≤_}
+use Prim.Native.Nat.{ℕ, _+_, _-_, _*_, _≤_, _<_}
 use native.Mathlib.Omega.{arith}
 use lib.ListN.{length, take, drop, length-drop}
 use lib.Seq.{drop-drop}
@@ -16,11 +16,16 @@ use Rattle.tree.specs.Tree.{children, getSeeds}
 use Rattle.tree.proofs.Laying.{each-getSeeds, length-leaves}
 use Rattle.tree.proofs.Theorems.{length-getSeeds}
 use Rattle.refusals.specs.Refusals.{workLength}
-use Rattle.biscuit.specs.Room.{Fits, LayoutOf, groups, leavesAt, rootsAt, rootIn}
+use Rattle.biscuit.specs.Room.{Fits, LayoutOf, groups, leavesAt, roomAt, rootsAt, rootIn}
 use Rattle.biscuit.specs.declared.Layout.{Layout}
 use Rattle.biscuit.proofs.Parts.{drop-behind-put}
 use Rattle.biscuit.proofs.Room.{mapped, length-rootIn}
 use Rattle.passes.specs.Passes.{seedsIn, Kept}
+
+-- a part put into lists that agree before and behind it
+put-around : (x y : List ℕ) (at : ℕ) (new : List ℕ) → take at x ≡ take at y → drop (at + length new) x ≡ drop (at + length new) y → put x at new ≡ put y at new
+unfolding put
+put-around x y at new h k = ap₂ (λ (u v : List ℕ). u ++ (new ++ v)) h k
 
 -- the root of a repetition, in work
 pub root-part : (P : Params) (work : List ℕ) (e : ℕ) → rootIn (S P) (drop (rootsAt P) work) e ≡ take (S P) (drop (rootsAt P + (e - 1) * S P) work)
@@ -119,3 +124,44 @@ module _ (P : Params) (f : Fits P) (salt : List ℕ) (work : List ℕ) (size : l
       whole =
           el
           ∙ ap₂ (λ (n : ℕ) (x : List ℕ). flatten (getSeeds (children n salt e) (P .l) x)) (ap length same ∙ root-size) same
+
+-- ---- repetitions planted one over the other
+
+-- what `count` of them leave in work: all around leaves and room stays, and after the first the leaves are those of the last
+pub record Replanted (P : Params) (salt first : List ℕ) (count : ℕ) (work : List ℕ) : Type 0 where
+  pub circuit : take (leavesAt P) work ≡ take (leavesAt P) first
+  pub behind : drop (roomAt P) work ≡ drop (roomAt P) first
+  pub leaves : 0 < count → work ≡ put first (leavesAt P) (flatten (seedsIn P salt (drop (rootsAt P) first) count))
+
+pub replanted-none : (P : Params) (salt work : List ℕ) → Replanted P salt work 0 work
+replanted-none P salt work = record { circuit = refl; behind = refl; leaves = λ h. absurd (omega arith) }
+
+pub replanted-roots : (P : Params) (salt first : List ℕ) (count : ℕ) (work : List ℕ) → Replanted P salt first count work → drop (rootsAt P) work ≡ drop (rootsAt P) first
+unfolding rootsAt
+replanted-roots P salt first count work h =
+    let n = groups P * (16 * P .m) in
+    sym (drop-drop n (roomAt P) work) ∙ ap (drop n) (h .behind) ∙ drop-drop n (roomAt P) first
+
+pub replanted-more : (P : Params) → Fits P → (salt first : List ℕ) → length first ≡ workLength → (count : ℕ) → count < P .tau → (before after : List ℕ)
+    → Replanted P salt first count before → after ≡ put before (leavesAt P) (flatten (seedsIn P salt (drop (rootsAt P) before) (count + 1))) → Replanted P salt first (count + 1) after
+replanted-more P f salt first size count less before after done turn = record {
+  circuit = ap (take (leavesAt P)) whole ∙ take-put first (leavesAt P) new fits;
+  behind = ap (drop (roomAt P)) whole ∙ drop-behind-put first (leavesAt P) new (roomAt P) fits (let e = end in omega arith);
+  leaves = λ h. whole;
+}
+  where
+    new : List ℕ
+    new = flatten (seedsIn P salt (drop (rootsAt P) first) (count + 1))
+
+    end : leavesAt P + length new ≡ roomAt P
+    end = let m = mapped P .leaves in let l = length-planted P f salt first size (count + 1) (omega arith) (omega arith) in omega arith
+
+    fits : leavesAt P + length new ≤ length first
+    fits = planted-fits P f salt first size (count + 1) (omega arith) (omega arith)
+
+    whole : after ≡ put first (leavesAt P) new
+    whole =
+        turn
+        ∙ ap (λ (r : List ℕ). put before (leavesAt P) (flatten (seedsIn P salt r (count + 1)))) (replanted-roots P salt first count before done)
+        ∙ put-around before first (leavesAt P) new (done .circuit)
+        (ap (λ (k : ℕ). drop k before) end ∙ done .behind ∙ ap (λ (k : ℕ). drop k first) (sym end))

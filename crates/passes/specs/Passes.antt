@@ -2,16 +2,15 @@
 -- signature, and the parts of work that stay. Assumes nothing.
 use mathlib.Core.Path.{_≡_}
 use mathlib.Core.List.{List, _++_}
-use Prim.Native.Nat.{ℕ, _+_, _-_, _*_, _≤_, _<_}
+use Prim.Native.Nat.{ℕ, _+_, _-_, _*_, _≤_}
 use lib.ListN.{take, drop}
-use Rattle.field.specs.Packing.{nib}
 use Rattle.sponge.specs.declared.Sponge.{Sponge}
 use Rattle.sponge.specs.Steps.{absorbed}
 use Rattle.sets.specs.Sets.{S}
 use Rattle.sets.specs.declared.Params.{Params}
 use Rattle.tree.specs.Tree.{children, getSeeds}
 use Rattle.parties.specs.Repetition as repetition
-use Rattle.vectors.specs.Elements.{elementsAt}
+use Rattle.vectors.specs.Elements.{elementsAt, elementsPut}
 use Rattle.biscuit.specs.Sign.{Signer, deltaS, deltaC}
 use Rattle.biscuit.specs.Room.{leavesAt, rootsAt, rootIn}
 
@@ -49,11 +48,6 @@ unfoldable pub HoldsCorrections : Params → Signer → ℕ → List ℕ → Typ
 HoldsCorrections P signer count packing =
     (e : ℕ) → 1 ≤ e → e ≤ count → elementsAt packing ((e - 1) * (P .n + P .m)) (P .n + P .m) ≡ deltaS P signer e ++ deltaC P signer e
 
--- the n elements v are placed from the half byte `at` on, and no half byte below has changed
-pub record Placed (at n : ℕ) (v before after : List ℕ) : Type 0 where
-  pub here : elementsAt after at n ≡ v
-  pub below : (j : ℕ) → j < at → nib after j ≡ nib before j
-
 -- ---- work
 
 -- the circuit, the roots and the challenges stay
@@ -61,9 +55,18 @@ pub record Kept (P : Params) (before after : List ℕ) : Type 0 where
   pub circuit : take (leavesAt P) after ≡ take (leavesAt P) before
   pub roots : drop (rootsAt P) after ≡ drop (rootsAt P) before
 
--- ---- one repetition
+-- ---- one repetition, from the seeds of all parties
 
--- lines 7 to 22 of repetition e, from the seeds of all parties: the first hash before and after, and the corrections placed in the packing
+-- lines 9 to 22: what the first hash takes
+unfoldable pub firstIn : Params → List ℕ → List ℕ → ℕ → List (List ℕ) → List ℕ
+firstIn P salt secret e seeds =
+    repetition.first (repetition.coms P salt e seeds) (repetition.deltaS P salt e (sIn P secret) seeds) (repetition.deltaC P salt e (yIn P secret) seeds)
+
+-- lines 14 and 15: Δs, and Δc behind it
+unfoldable pub correctionsIn : Params → List ℕ → List ℕ → ℕ → List (List ℕ) → List ℕ
+correctionsIn P salt secret e seeds = repetition.deltaS P salt e (sIn P secret) seeds ++ repetition.deltaC P salt e (yIn P secret) seeds
+
+-- the first hash before and after, and the corrections put from the half byte (e - 1)(n + m) of the packing on; every other half byte stays
 pub record Committed (P : Params) (e : ℕ) (salt secret : List ℕ) (seeds : List (List ℕ)) (before after : Sponge) (old new : List ℕ) : Type 0 where
-  pub hashed : after ≡ absorbed before (repetition.first (repetition.coms P salt e seeds) (repetition.deltaS P salt e (sIn P secret) seeds) (repetition.deltaC P salt e (yIn P secret) seeds))
-  pub placed : Placed ((e - 1) * (P .n + P .m)) (P .n + P .m) (repetition.deltaS P salt e (sIn P secret) seeds ++ repetition.deltaC P salt e (yIn P secret) seeds) old new
+  pub hashed : after ≡ absorbed before (firstIn P salt secret e seeds)
+  pub placed : new ≡ elementsPut (correctionsIn P salt secret e seeds) ((e - 1) * (P .n + P .m)) old

@@ -7,18 +7,18 @@ use sets::Params;
 use sponge::Sponge;
 ghost use mathlib.Core.Path.{_≡_};
 ghost use mathlib.Core.List.{flatten, _++_};
-ghost use Prim.Native.Nat.{_+_, _-_, _*_, _≤_, _<_};
+ghost use Prim.Native.Nat.{_+_, _-_, _*_, _≤_};
 ghost use lib.ListN.{length, drop};
 ghost use Rattle.memory.specs.Lists.{put};
 ghost use Rattle.memory.specs.Sections.{pieces};
-ghost use Rattle.field.specs.Packing.{Elements, packedLength};
+ghost use Rattle.field.specs.Packing.{packedLength};
 ghost use Rattle.sponge.specs.Steps.{absorbed};
 ghost use Rattle.sets.specs.Sets.{S};
 ghost use Rattle.refusals.specs.Refusals.{workLength};
-ghost use Rattle.biscuit.specs.Signature.{vectorCount};
+ghost use Rattle.biscuit.specs.Signature.{repeated, vectorCount};
 ghost use Rattle.biscuit.specs.Room.{Fits, groups, leavesAt, rootsAt};
-ghost use Rattle.biscuit.specs.Sign.{Signer, σ₁};
-ghost use Rattle.passes.specs.Passes.{seedsIn, HoldsSecret, HoldsRoots, HoldsCorrections, Placed, Kept, Committed};
+ghost use Rattle.vectors.specs.Elements.{elementsPut};
+ghost use Rattle.passes.specs.Passes.{seedsIn, firstIn, correctionsIn, Committed};
 
 // Phase 1, lines 6 to 22: the first hash takes the commitments and the corrections of every repetition, and the corrections are written to the packing.
 pub fn commit_pass(
@@ -29,10 +29,10 @@ pub fn commit_pass(
     packing: &mut [u8],
     work: &mut [u8],
 ) -> Sponge
-    requires { ⌜ (Fits p) × (length (now salt) ≡ 2 * S p) × (length (now secret) ≡ p .n + p .m + p .m) × (Elements (now secret)) × (length (now packing) ≡ packedLength (vectorCount p)) × (length (now work) ≡ workLength) ⌝ }
-    ensures absorbs { λ r. ⌜ ((signer : Signer) → HoldsSecret p signer (now (salt .entry)) (now (secret .entry)) → HoldsRoots p signer (drop (rootsAt p) (now (work .entry))) → r ≡ absorbed hash (σ₁ p signer)) ⌝ }
-    ensures writes { λ r. ⌜ ((signer : Signer) → HoldsSecret p signer (now (salt .entry)) (now (secret .entry)) → HoldsRoots p signer (drop (rootsAt p) (now (work .entry))) → HoldsCorrections p signer (p .tau) (now (packing .exit))) ⌝ }
-    ensures keeps { λ r. ⌜ Kept p (now (work .entry)) (now (work .exit)) ⌝ }
+    requires { ⌜ (Fits p) × (length (now salt) ≡ 2 * S p) × (length (now secret) ≡ p .n + p .m + p .m) × (length (now packing) ≡ packedLength (vectorCount p)) × (length (now work) ≡ workLength) ⌝ }
+    ensures absorbs { λ r. ⌜ r ≡ absorbed hash (repeated (p .tau) (λ e. firstIn p (now (salt .entry)) (now (secret .entry)) e (seedsIn p (now (salt .entry)) (drop (rootsAt p) (now (work .entry))) e))) ⌝ }
+    ensures writes { λ r. ⌜ now (packing .exit) ≡ elementsPut (repeated (p .tau) (λ e. correctionsIn p (now (salt .entry)) (now (secret .entry)) e (seedsIn p (now (salt .entry)) (drop (rootsAt p) (now (work .entry))) e))) 0 (now (packing .entry)) ⌝ }
+    ensures plants { λ r. ⌜ now (work .exit) ≡ put (now (work .entry)) (leavesAt p) (flatten (seedsIn p (now (salt .entry)) (drop (rootsAt p) (now (work .entry))) (p .tau))) ⌝ }
 {
     let tau = p.tau;
     let mut next = hash;
@@ -65,9 +65,9 @@ fn commit_turn(
     packing: &mut [u8],
     work: &mut [u8],
 ) -> Sponge
-    requires { ⌜ (Fits p) × (1 ≤ e) × (e ≤ p .tau) × (length (now salt) ≡ 2 * S p) × (length (now secret) ≡ p .n + p .m + p .m) × (Elements (now secret)) × (length (now packing) ≡ packedLength (vectorCount p)) × (length (now work) ≡ workLength) ⌝ }
+    requires { ⌜ (Fits p) × (1 ≤ e) × (e ≤ p .tau) × (length (now salt) ≡ 2 * S p) × (length (now secret) ≡ p .n + p .m + p .m) × (length (now packing) ≡ packedLength (vectorCount p)) × (length (now work) ≡ workLength) ⌝ }
     ensures commits { λ r. ⌜ Committed p e (now (salt .entry)) (now (secret .entry)) (seedsIn p (now (salt .entry)) (drop (rootsAt p) (now (work .entry))) e) hash r (now (packing .entry)) (now (packing .exit)) ⌝ }
-    ensures keeps { λ r. ⌜ Kept p (now (work .entry)) (now (work .exit)) ⌝ }
+    ensures plants { λ r. ⌜ now (work .exit) ≡ put (now (work .entry)) (leavesAt p) (flatten (seedsIn p (now (salt .entry)) (drop (rootsAt p) (now (work .entry))) e)) ⌝ }
 {
     let map = biscuit::layout_of(p);
     let a = map.leaves;
@@ -101,7 +101,7 @@ fn commit_leaves(
     leaves: &[u8],
     packing: &mut [u8],
 ) -> Sponge
-    requires { ⌜ (Fits p) × (1 ≤ e) × (e ≤ p .tau) × (length (now salt) ≡ 2 * S p) × (length (now secret) ≡ p .n + p .m + p .m) × (Elements (now secret)) × (length (now leaves) ≡ 16 * groups p * S p) × (length (now packing) ≡ packedLength (vectorCount p)) ⌝ }
+    requires { ⌜ (Fits p) × (1 ≤ e) × (e ≤ p .tau) × (length (now salt) ≡ 2 * S p) × (length (now secret) ≡ p .n + p .m + p .m) × (length (now leaves) ≡ 16 * groups p * S p) × (length (now packing) ≡ packedLength (vectorCount p)) ⌝ }
     ensures { λ r. ⌜ Committed p e (now (salt .entry)) (now (secret .entry)) (pieces (S p) (16 * groups p) (now (leaves .entry))) hash r (now (packing .entry)) (now (packing .exit)) ⌝ }
 {
     let n = p.n;
@@ -133,7 +133,7 @@ fn commit_in(
     dc: &mut [u8],
     packing: &mut [u8],
 ) -> Sponge
-    requires { ⌜ (Fits p) × (1 ≤ e) × (e ≤ p .tau) × (length (now salt) ≡ 2 * S p) × (length (now secret) ≡ p .n + p .m + p .m) × (Elements (now secret)) × (length (now leaves) ≡ 16 * groups p * S p) × (length (now ds) ≡ p .n) × (length (now dc) ≡ p .m) × (length (now packing) ≡ packedLength (vectorCount p)) ⌝ }
+    requires { ⌜ (Fits p) × (1 ≤ e) × (e ≤ p .tau) × (length (now salt) ≡ 2 * S p) × (length (now secret) ≡ p .n + p .m + p .m) × (length (now leaves) ≡ 16 * groups p * S p) × (length (now ds) ≡ p .n) × (length (now dc) ≡ p .m) × (length (now packing) ≡ packedLength (vectorCount p)) ⌝ }
     ensures { λ r. ⌜ Committed p e (now (salt .entry)) (now (secret .entry)) (pieces (S p) (16 * groups p) (now (leaves .entry))) hash r (now (packing .entry)) (now (packing .exit)) ⌝ }
 {
     let count = 16 * biscuit::groups_of(p);
@@ -158,8 +158,8 @@ fn commit_in(
 
 // Line 40, of Δs and Δc of repetition e: written to their place in the packing.
 fn write_corrections(p: Params, e: usize, ds: &[u8], dc: &[u8], packing: &mut [u8])
-    requires { ⌜ (Fits p) × (1 ≤ e) × (e ≤ p .tau) × (length (now ds) ≡ p .n) × (Elements (now ds)) × (length (now dc) ≡ p .m) × (Elements (now dc)) × (length (now packing) ≡ packedLength (vectorCount p)) ⌝ }
-    ensures { λ r. ⌜ Placed ((e - 1) * (p .n + p .m)) (p .n + p .m) (now (ds .entry) ++ now (dc .entry)) (now (packing .entry)) (now (packing .exit)) ⌝ }
+    requires { ⌜ (Fits p) × (1 ≤ e) × (e ≤ p .tau) × (length (now ds) ≡ p .n) × (length (now dc) ≡ p .m) × (length (now packing) ≡ packedLength (vectorCount p)) ⌝ }
+    ensures { λ r. ⌜ now (packing .exit) ≡ elementsPut (now (ds .entry) ++ now (dc .entry)) ((e - 1) * (p .n + p .m)) (now (packing .entry)) ⌝ }
 {
     let at = (e - 1) * (p.n + p.m);
     vectors::write_elements(ds, at, packing);

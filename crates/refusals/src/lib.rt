@@ -37,7 +37,7 @@ const LAST_SET: usize = 6;
 const MESSAGE_LIMIT: usize = 32768;
 
 // The bytes of work that a call needs.
-const WORK: usize = 65536;
+pub const WORK: usize = 65536;
 
 // The tests of the sizes of make keys, in order: 1, 2, 6, 7; 0 where all are right.
 pub fn make_keys_sizes(

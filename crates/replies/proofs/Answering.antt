@@ -1,7 +1,7 @@
--- Phase 3, repetition after repetition: what the second hash has absorbed, for every signer whose secret, roots, circuit, challenges and corrections are lent. Assumes nothing.
+-- Phase 3, repetition after repetition: what the second hash has absorbed; and what this is to a signer whose secret, roots, circuit, challenges and corrections are lent. Assumes nothing.
 use mathlib.Core.Path.{_≡_, refl, sym, ap, subst, _∙_}
 use mathlib.Core.List.{List}
-use Prim.Native.Nat.{ℕ, _+_, _≤_, _<_}
+use Prim.Native.Nat.{ℕ, _+_, _≤_}
 use native.Mathlib.Omega.{arith}
 use lib.ListN.{length, take, drop}
 use Rattle.sponge.specs.declared.Sponge.{Sponge}
@@ -10,17 +10,19 @@ use Rattle.sets.specs.declared.Params.{Params}
 use Rattle.forms.specs.Circuit.{Circuit}
 use Rattle.forms.specs.Room.{HoldsCircuit}
 use Rattle.parties.specs.Repetition as repetition
-use Rattle.answers.proofs.Absorbing.{Absorbing, absorbing-all}
+use Rattle.answers.proofs.Absorbing.{Absorbing, absorbing-none, absorbing-all}
 use Rattle.refusals.specs.Refusals.{workLength}
 use Rattle.biscuit.specs.Signature.{repeated}
 use Rattle.biscuit.specs.Sign as sign
 use Rattle.biscuit.specs.Sign.{Signer}
 use Rattle.biscuit.specs.Room.{Fits, leavesAt, rootsAt}
+use Rattle.biscuit.proofs.Repeated.{repeated-same}
 use Rattle.biscuit.proofs.Room.{behind-roots}
 use Rattle.passes.specs.Passes.{HoldsRoots, Kept}
 use Rattle.passes.proofs.Committing.{absorbing-repetition}
 use Rattle.replies.specs.Replies.{HoldsChallenges, Challenged, answersOf}
 use Rattle.replies.proofs.Signed.{answers-signed}
+use Rattle.replies.proofs.Pairing.{answers-kept}
 
 -- where work has the parts that stay, it has them of the same signer
 pub challenged-kept : (P : Params) (signer : Signer) (msg salt secret packing before after : List ℕ) → Kept P before after
@@ -32,37 +34,59 @@ challenged-kept P signer msg salt secret packing before after k h = record {
   corrections = h .corrections;
 }
 
+-- ---- the loop
+
 -- what the second hash takes of all repetitions up to `count`
-abbrev pub answersUpTo : Params → Signer → List ℕ → ℕ → List ℕ
-answersUpTo P signer msg count = repeated count (λ e. repetition.second (sign.αs P signer msg e) (sign.allV P signer msg e))
+abbrev pub answersUpTo : Params → Circuit → List ℕ → List ℕ → List ℕ → List ℕ → ℕ → List ℕ
+answersUpTo P c salt secret packing work count = repeated count (λ e. answersOf P c e salt secret packing work)
+
+-- the second hash has absorbed them, whatever circuit work holds
+abbrev pub AnsweredTo : Params → List ℕ → List ℕ → List ℕ → List ℕ → ℕ → Sponge → Sponge → Type 0
+AnsweredTo P salt secret packing work count before after =
+    (c : Circuit) → HoldsCircuit (P .n) (P .m) c (take (leavesAt P) work) → Absorbing before after (answersUpTo P c salt secret packing work count) count
+
+pub answering-none : (P : Params) (salt secret packing work : List ℕ) (s : Sponge) → AnsweredTo P salt secret packing work 0 s s
+unfolding repeated
+answering-none P salt secret packing work s c held = absorbing-none s
 
 -- one repetition more, and two
-module _ (P : Params) (f : Fits P) (signer : Signer) (msg salt secret packing work : List ℕ) (size : length secret ≡ P .n + P .m + P .m) (whole : length work ≡ workLength)
-    (challenged : Challenged P signer msg salt secret packing work) (rooted : HoldsRoots P signer (drop (rootsAt P) work)) where
-  signed-more : (count : ℕ) (s r r′ : Sponge) → count < P .tau → Absorbing s r (answersUpTo P signer msg count) count
-      → r′ ≡ absorbed r (answersOf P (sign.f P signer) (count + 1) salt secret packing work) → Absorbing s r′ (answersUpTo P signer msg (count + 1)) (count + 1)
-  signed-more count s r r′ less done turn =
-      absorbing-repetition count (λ e. repetition.second (sign.αs P signer msg e) (sign.allV P signer msg e)) s r r′ done
-      (turn ∙ ap (absorbed r) (answers-signed P signer msg salt secret packing work size challenged (count + 1) (omega arith) (omega arith) f whole rooted))
+module _ (P : Params) (salt secret packing first work : List ℕ) (kept : Kept P first work) where
+  one-more : (c : Circuit) (count : ℕ) (s r r′ : Sponge) → Absorbing s r (answersUpTo P c salt secret packing first count) count
+      → r′ ≡ absorbed r (answersOf P c (count + 1) salt secret packing work) → Absorbing s r′ (answersUpTo P c salt secret packing first (count + 1)) (count + 1)
+  one-more c count s r r′ done turn =
+      absorbing-repetition count (λ e. answersOf P c e salt secret packing first) s r r′ done (turn ∙ ap (absorbed r) (answers-kept P c (count + 1) salt secret packing first work kept))
 
-  pub answering-more : (count : ℕ) (s r r′ : Sponge) → count < P .tau → Absorbing s r (answersUpTo P signer msg count) count
+  still-held : (c : Circuit) → HoldsCircuit (P .n) (P .m) c (take (leavesAt P) first) → HoldsCircuit (P .n) (P .m) c (take (leavesAt P) work)
+  still-held c held = subst (λ (x : List ℕ). HoldsCircuit (P .n) (P .m) c x) (sym (kept .circuit)) held
+
+  pub answering-more : (count : ℕ) (s r r′ : Sponge) → AnsweredTo P salt secret packing first count s r
       → ((c : Circuit) → HoldsCircuit (P .n) (P .m) c (take (leavesAt P) work) → r′ ≡ absorbed r (answersOf P c (count + 1) salt secret packing work))
-      → Absorbing s r′ (answersUpTo P signer msg (count + 1)) (count + 1)
-  answering-more count s r r′ less done turn = signed-more count s r r′ less done (turn (sign.f P signer) (challenged .circuit))
+      → AnsweredTo P salt secret packing first (count + 1) s r′
+  answering-more count s r r′ done turn c held = one-more c count s r r′ (done c held) (turn c (still-held c held))
 
-  pub answering-two : (count : ℕ) (s r r′ : Sponge) → count + 1 < P .tau → Absorbing s r (answersUpTo P signer msg count) count
+  pub answering-two : (count : ℕ) (s r r′ : Sponge) → AnsweredTo P salt secret packing first count s r
       → ((c : Circuit) → HoldsCircuit (P .n) (P .m) c (take (leavesAt P) work)
       → r′ ≡ absorbed (absorbed r (answersOf P c (count + 1) salt secret packing work)) (answersOf P c (count + 1 + 1) salt secret packing work))
-      → Absorbing s r′ (answersUpTo P signer msg (count + 2)) (count + 2)
-  answering-two count s r r′ less done turn =
+      → AnsweredTo P salt secret packing first (count + 2) s r′
+  answering-two count s r r′ done turn c held =
       let e : count + 1 + 1 ≡ count + 2 = omega arith in
-      let between = absorbed r (answersOf P (sign.f P signer) (count + 1) salt secret packing work) in
-      subst (λ (k : ℕ). Absorbing s r′ (answersUpTo P signer msg k) k) e
-      (signed-more (count + 1) s between r′ less (signed-more count s r between (omega arith) done refl) (turn (sign.f P signer) (challenged .circuit)))
+      let between = absorbed r (answersOf P c (count + 1) salt secret packing work) in
+      subst (λ (k : ℕ). Absorbing s r′ (answersUpTo P c salt secret packing first k) k) e
+      (one-more c (count + 1) s between r′ (one-more c count s r between (done c held) refl) (turn c (still-held c held)))
 
-pub answered-all : (P : Params) (signer : Signer) (msg : List ℕ) (count : ℕ) (s r : Sponge) → count ≡ P .tau → 1 ≤ P .tau → Absorbing s r (answersUpTo P signer msg count) count
-    → r ≡ absorbed s (sign.σ₂ P signer msg)
+pub answered-all : (P : Params) (salt secret packing work : List ℕ) (count : ℕ) (s r : Sponge) → count ≡ P .tau → 1 ≤ P .tau → AnsweredTo P salt secret packing work count s r
+    → (c : Circuit) → HoldsCircuit (P .n) (P .m) c (take (leavesAt P) work) → r ≡ absorbed s (answersUpTo P c salt secret packing work (P .tau))
+answered-all P salt secret packing work count s r e some h c held =
+    absorbing-all s r (answersUpTo P c salt secret packing work count) count (omega arith) (h c held)
+    ∙ ap (λ (n : ℕ). absorbed s (answersUpTo P c salt secret packing work n)) e
+
+-- ---- what the promise is to a signer that has what is lent
+
+pub answers-all-signed : (P : Params) → Fits P → (salt secret packing work : List ℕ) → length secret ≡ P .n + P .m + P .m → length work ≡ workLength → (s r : Sponge)
+    → ((c : Circuit) → HoldsCircuit (P .n) (P .m) c (take (leavesAt P) work) → r ≡ absorbed s (answersUpTo P c salt secret packing work (P .tau)))
+    → (signer : Signer) (msg : List ℕ) → Challenged P signer msg salt secret packing work → HoldsRoots P signer (drop (rootsAt P) work) → r ≡ absorbed s (sign.σ₂ P signer msg)
 unfolding sign.σ₂
-answered-all P signer msg count s r e some h =
-    absorbing-all s r (answersUpTo P signer msg count) count (omega arith) h
-    ∙ ap (λ (n : ℕ). absorbed s (answersUpTo P signer msg n)) e
+answers-all-signed P f salt secret packing work size whole s r absorbs signer msg challenged rooted =
+    absorbs (sign.f P signer) (challenged .circuit)
+    ∙ ap (absorbed s) (repeated-same (P .tau) (λ e. answersOf P (sign.f P signer) e salt secret packing work) (λ e. repetition.second (sign.αs P signer msg e) (sign.allV P signer msg e))
+    (λ e from to. answers-signed P signer msg salt secret packing work size challenged e from to f whole rooted))

@@ -20,6 +20,8 @@ use Rattle.parties.specs.Repetition.{rawShare}
 use Rattle.group.specs.declared.Rep.{Rep}
 use Rattle.group.specs.Shares.{valuesLength, deltaS, deltaC, epsilon}
 use Rattle.answers.specs.Answers.{sharesOf, answered}
+use Rattle.answers.specs.Passes.{roomAt}
+use Rattle.answers.proofs.Work.{part-same}
 use Rattle.vectors.specs.Elements.{elementsAt}
 use Rattle.refusals.specs.Refusals.{workLength}
 use Rattle.biscuit.specs.Room.{Fits, groups, leavesAt, rootsAt, challengesAt, rootIn}
@@ -126,13 +128,14 @@ module _ (P : Params) (e : ℕ) (f : Fits P) (rep : Rep) (same : rep ≡ repOf P
 
     -- what it leaves of work
     pub rooms-kept : (end : ℕ) (rooms : List ℕ) → end ≡ rootsAt P → length rooms ≡ length (take (end - 0) (drop 0 work))
-        → take (circuitLength (rep .n) (rep .m)) rooms ≡ take (circuitLength (rep .n) (rep .m)) (take (end - 0) (drop 0 work))
+        → take (roomAt rep) rooms ≡ take (roomAt rep) (take (end - 0) (drop 0 work))
         → Kept P work (rooms ++ drop (end - 0) work)
     rooms-kept end rooms h size k =
         let m = mapped P in
         let enough = f .enough in
         let l = length-first work end (omega arith) in
-        let g = subst (λ (q : Rep). take (circuitLength (q .n) (q .m)) rooms ≡ take (circuitLength (q .n) (q .m)) (take (end - 0) (drop 0 work))) same k in
+        let g = subst (λ (q : Rep). take (circuitLength (q .n) (q .m)) rooms ≡ take (circuitLength (q .n) (q .m)) (take (end - 0) (drop 0 work))) same
+        (part-same rooms (take (end - 0) (drop 0 work)) 0 (circuitLength (rep .n) (rep .m)) (roomAt rep) (omega arith) k) in
         record {
           circuit = circuit-before rooms (drop (end - 0) work) (omega arith) ∙ g ∙ circuit-part end (omega arith);
           roots = drop-at rooms (drop (end - 0) work) (rootsAt P) (omega arith) ∙ ap (λ (j : ℕ). drop j work) (let z : end - 0 ≡ rootsAt P = omega arith in z);

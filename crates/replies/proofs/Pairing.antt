@@ -27,7 +27,7 @@ use Rattle.replies.specs.Replies.{valuesIn, answersIn, answersOf}
 -- ---- one after the other
 
 -- what a repetition takes, where work has the parts that stay
-answers-kept : (P : Params) (c : Circuit) (e : ℕ) (salt secret packing before after : List ℕ) → Kept P before after
+pub answers-kept : (P : Params) (c : Circuit) (e : ℕ) (salt secret packing before after : List ℕ) → Kept P before after
     → answersOf P c e salt secret packing after ≡ answersOf P c e salt secret packing before
 answers-kept P c e salt secret packing before after k =
     ap₂ (λ (x r : List ℕ). answersIn P c e salt (valuesIn P e secret packing x) (flatten (seedsIn P salt r e))) (behind-roots P before after (k .roots)) (k .roots)

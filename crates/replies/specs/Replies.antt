@@ -1,8 +1,8 @@
 -- Phases 3 and 5 of signing over all repetitions: what a signer of algorithm 12 has after phases 2 and 4, as it is lent, and what one repetition takes from it. Assumes nothing.
 use mathlib.Core.Path.{_≡_}
-use mathlib.Core.List.{List, [], _++_, flatten}
+use mathlib.Core.List.{List, _++_, flatten}
 use Prim.Native.Nat.{ℕ, _+_, _-_, _*_, _≤_}
-use lib.ListN.{getD, take, drop, replicate}
+use lib.ListN.{take, drop, replicate}
 use Rattle.sets.specs.Sets.{S}
 use Rattle.sets.specs.declared.Params.{Params}
 use Rattle.forms.specs.Circuit.{Circuit}
@@ -12,7 +12,7 @@ use Rattle.parties.specs.Repetition.{rawShare}
 use Rattle.group.specs.Shares as shares
 use Rattle.answers.specs.Answers.{sharesOf, answered}
 use Rattle.vectors.specs.Elements.{elementsAt}
-use Rattle.biscuit.specs.Sign.{Signer, f, seeds, ε, αs, hidden}
+use Rattle.biscuit.specs.Sign.{Signer, f, ε, hidden}
 use Rattle.biscuit.specs.Room.{leavesAt, rootsAt, challengesAt, rootIn}
 use Rattle.reps.specs.Reps.{repOf}
 use Rattle.passes.specs.Passes.{seedsIn, tIn, HoldsSecret, HoldsCorrections}
@@ -33,10 +33,6 @@ pub record Challenged (P : Params) (signer : Signer) (msg salt secret packing wo
 -- after phase 4: a byte for each repetition gives its hidden party
 unfoldable pub HoldsHidden : Params → Signer → List ℕ → List ℕ → Type 0
 HoldsHidden P signer msg bytes = (e : ℕ) → 1 ≤ e → e ≤ P .tau → hiddenIn (P .l) bytes e ≡ hidden P signer msg e
-
--- the bytes begin with the leaves of the hidden parties of all repetitions
-unfoldable pub HoldsLeaves : Params → Signer → List ℕ → List ℕ → Type 0
-HoldsLeaves P signer msg leaves = (e : ℕ) → 1 ≤ e → e ≤ P .tau → rootIn (S P) leaves e ≡ getD (seeds P signer e) (hidden P signer msg e - 1) []
 
 -- ---- one repetition
 
@@ -59,13 +55,13 @@ unfoldable pub alphaIn : Params → Circuit → ℕ → ℕ → List ℕ → Lis
 alphaIn P f e i salt values leaf =
     alphaOf f (shares.epsilon (repOf P e 0) values) i (corrected (shares.deltaS (repOf P e 0) values) (shares.deltaC (repOf P e 0) values) i (rawShare P salt e i leaf))
 
+-- line 38: that of the hidden party, from what is lent; its leaf stands where the root was
+abbrev pub alphaShown : Params → Circuit → ℕ → List ℕ → List ℕ → List ℕ → List ℕ → List ℕ → List ℕ
+alphaShown P f e salt secret hidden packing work =
+    alphaIn P f e (hiddenIn (P .l) hidden e) salt (valuesIn P e secret packing (drop (challengesAt P) work)) (rootIn (S P) (drop (rootsAt P) work) e)
+
 -- ---- the packing of a signature
 
 -- where the hidden α of repetition e lies, in half bytes: behind all corrections
 unfoldable pub alphaAt : Params → ℕ → ℕ
 alphaAt P e = P .tau * (P .n + P .m) + (e - 1) * P .m
-
--- line 40: the hidden α of the repetitions up to `count`
-unfoldable pub HoldsAlphas : Params → Signer → List ℕ → ℕ → List ℕ → Type 0
-HoldsAlphas P signer msg count packing =
-    (e : ℕ) → 1 ≤ e → e ≤ count → elementsAt packing (alphaAt P e) (P .m) ≡ getD (αs P signer msg e) (hidden P signer msg e - 1) []

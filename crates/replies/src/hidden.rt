@@ -10,13 +10,12 @@ ghost use lib.ListN.{length, take, drop};
 ghost use Rattle.field.specs.Packing.{packedLength};
 ghost use Rattle.sets.specs.Sets.{S};
 ghost use Rattle.forms.specs.Circuit.{Circuit};
-ghost use Rattle.forms.specs.Room.{HoldsCircuit, hiddenIn};
+ghost use Rattle.forms.specs.Room.{HoldsCircuit};
 ghost use Rattle.vectors.specs.Elements.{elementsPut};
 ghost use Rattle.refusals.specs.Refusals.{workLength};
 ghost use Rattle.biscuit.specs.Signature.{vectorCount};
 ghost use Rattle.biscuit.specs.Room.{Fits, leavesAt, rootsAt, challengesAt, rootIn};
-ghost use Rattle.passes.specs.Passes.{Placed};
-ghost use Rattle.replies.specs.Replies.{valuesIn, alphaIn, alphaAt};
+ghost use Rattle.replies.specs.Replies.{valuesIn, alphaIn, alphaShown, alphaAt};
 
 // The α of the hidden party of repetition e.
 pub fn alpha_turn(
@@ -29,7 +28,7 @@ pub fn alpha_turn(
     work: &[u8],
 )
     requires { ⌜ (Fits p) × (1 ≤ e) × (e ≤ p .tau) × (length (now salt) ≡ 2 * S p) × (length (now secret) ≡ p .n + p .m + p .m) × (p .tau ≤ length (now hidden)) × (length (now packing) ≡ packedLength (vectorCount p)) × (length (now work) ≡ workLength) ⌝ }
-    ensures { λ r. ⌜ ((f : Circuit) → HoldsCircuit (p .n) (p .m) f (take (leavesAt p) (now (work .entry))) → Placed (alphaAt p e) (p .m) (alphaIn p f e (hiddenIn (p .l) (now (hidden .entry)) e) (now (salt .entry)) (valuesIn p e (now (secret .entry)) (now (packing .entry)) (drop (challengesAt p) (now (work .entry)))) (rootIn (S p) (drop (rootsAt p) (now (work .entry))) e)) (now (packing .entry)) (now (packing .exit))) ⌝ }
+    ensures { λ r. ⌜ ((f : Circuit) → HoldsCircuit (p .n) (p .m) f (take (leavesAt p) (now (work .entry))) → now (packing .exit) ≡ elementsPut (alphaShown p f e (now (salt .entry)) (now (secret .entry)) (now (hidden .entry)) (now (packing .entry)) (now (work .entry))) (alphaAt p e) (now (packing .entry))) ⌝ }
 {
     let i = forms::hidden_party(hidden, p.l, e);
     let size = p.n + 4 * p.m;
@@ -62,7 +61,7 @@ fn alpha_in(
     alpha: &mut [u8],
 )
     requires { ⌜ (Fits p) × (1 ≤ e) × (e ≤ p .tau) × (length (now salt) ≡ 2 * S p) × (length (now secret) ≡ p .n + p .m + p .m) × (length (now packing) ≡ packedLength (vectorCount p)) × (length (now work) ≡ workLength) × (length (now values) ≡ p .n + 4 * p .m) × (length (now alpha) ≡ p .m) ⌝ }
-    ensures { λ r. ⌜ ((f : Circuit) → HoldsCircuit (p .n) (p .m) f (take (leavesAt p) (now (work .entry))) → Placed (alphaAt p e) (p .m) (alphaIn p f e i (now (salt .entry)) (valuesIn p e (now (secret .entry)) (now (packing .entry)) (drop (challengesAt p) (now (work .entry)))) (rootIn (S p) (drop (rootsAt p) (now (work .entry))) e)) (now (packing .entry)) (now (packing .exit))) ⌝ }
+    ensures { λ r. ⌜ ((f : Circuit) → HoldsCircuit (p .n) (p .m) f (take (leavesAt p) (now (work .entry))) → now (packing .exit) ≡ elementsPut (alphaIn p f e i (now (salt .entry)) (valuesIn p e (now (secret .entry)) (now (packing .entry)) (drop (challengesAt p) (now (work .entry)))) (rootIn (S p) (drop (rootsAt p) (now (work .entry))) e)) (alphaAt p e) (now (packing .entry))) ⌝ }
 {
     read_values(p, e, secret, packing, work, values);
     alpha_leaf(p, e, i, salt, values, work, alpha);

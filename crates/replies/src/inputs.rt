@@ -1,6 +1,5 @@
-// What a repetition is answered from: its numbers, and its values one after another, an element to a byte.
+// What a repetition is answered from: its values one after another, an element to a byte.
 // No secret picks a branch or an address.
-use group::Rep;
 use sets::Params;
 ghost use mathlib.Core.Path.{_≡_};
 ghost use mathlib.Core.List.{_++_};

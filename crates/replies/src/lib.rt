@@ -7,18 +7,19 @@ mod repetition;
 use sets::Params;
 use sponge::Sponge;
 ghost use mathlib.Core.Path.{_≡_};
-ghost use mathlib.Core.List.{List};
-ghost use Prim.Native.Nat.{ℕ, _+_, _*_, _≤_, _<_};
-ghost use lib.ListN.{length, drop};
-ghost use Rattle.field.specs.Packing.{Elements, nib, packedLength};
+ghost use Prim.Native.Nat.{_+_, _*_, _≤_};
+ghost use lib.ListN.{length, take};
+ghost use Rattle.field.specs.Packing.{Elements, packedLength};
 ghost use Rattle.sponge.specs.Steps.{absorbed};
 ghost use Rattle.sets.specs.Sets.{S};
+ghost use Rattle.forms.specs.Circuit.{Circuit};
+ghost use Rattle.forms.specs.Room.{HoldsCircuit};
+ghost use Rattle.vectors.specs.Elements.{elementsPut};
 ghost use Rattle.refusals.specs.Refusals.{workLength};
-ghost use Rattle.biscuit.specs.Signature.{vectorCount};
-ghost use Rattle.biscuit.specs.Room.{Fits, rootsAt};
-ghost use Rattle.biscuit.specs.Sign.{Signer, σ₂};
-ghost use Rattle.passes.specs.Passes.{HoldsRoots, Kept};
-ghost use Rattle.replies.specs.Replies.{Challenged, HoldsHidden, HoldsLeaves, HoldsAlphas};
+ghost use Rattle.biscuit.specs.Signature.{repeated, vectorCount};
+ghost use Rattle.biscuit.specs.Room.{Fits, leavesAt};
+ghost use Rattle.passes.specs.Passes.{Kept};
+ghost use Rattle.replies.specs.Replies.{answersOf, alphaShown};
 
 // Phase 3, lines 25 to 34: the second hash takes every α and then every v of each repetition.
 pub fn answer_pass(
@@ -30,7 +31,7 @@ pub fn answer_pass(
     work: &mut [u8],
 ) -> Sponge
     requires { ⌜ (Fits p) × (length (now salt) ≡ 2 * S p) × (length (now secret) ≡ p .n + p .m + p .m) × (Elements (now secret)) × (length (now packing) ≡ packedLength (vectorCount p)) × (length (now work) ≡ workLength) ⌝ }
-    ensures absorbs { λ r. ⌜ ((signer : Signer) (msg : List ℕ) → Challenged p signer msg (now (salt .entry)) (now (secret .entry)) (now (packing .entry)) (now (work .entry)) → HoldsRoots p signer (drop (rootsAt p) (now (work .entry))) → r ≡ absorbed hash (σ₂ p signer msg)) ⌝ }
+    ensures absorbs { λ r. ⌜ ((f : Circuit) → HoldsCircuit (p .n) (p .m) f (take (leavesAt p) (now (work .entry))) → r ≡ absorbed hash (repeated (p .tau) (λ e. answersOf p f e (now (salt .entry)) (now (secret .entry)) (now (packing .entry)) (now (work .entry))))) ⌝ }
     ensures keeps { λ r. ⌜ Kept p (now (work .entry)) (now (work .exit)) ⌝ }
 {
     let tau = p.tau;
@@ -57,8 +58,7 @@ pub fn alpha_pass(
     work: &[u8],
 )
     requires { ⌜ (Fits p) × (length (now salt) ≡ 2 * S p) × (length (now secret) ≡ p .n + p .m + p .m) × (p .tau ≤ length (now hidden)) × (length (now packing) ≡ packedLength (vectorCount p)) × (length (now work) ≡ workLength) ⌝ }
-    ensures writes { λ r. ⌜ ((signer : Signer) (msg : List ℕ) → Challenged p signer msg (now (salt .entry)) (now (secret .entry)) (now (packing .entry)) (now (work .entry)) → HoldsHidden p signer msg (now (hidden .entry)) → HoldsLeaves p signer msg (drop (rootsAt p) (now (work .entry))) → HoldsAlphas p signer msg (p .tau) (now (packing .exit))) ⌝ }
-    ensures keeps { λ r. ⌜ ((j : ℕ) → j < p .tau * (p .n + p .m) → nib (now (packing .exit)) j ≡ nib (now (packing .entry)) j) ⌝ }
+    ensures { λ r. ⌜ ((f : Circuit) → HoldsCircuit (p .n) (p .m) f (take (leavesAt p) (now (work .entry))) → now (packing .exit) ≡ elementsPut (repeated (p .tau) (λ e. alphaShown p f e (now (salt .entry)) (now (secret .entry)) (now (hidden .entry)) (now (packing .entry)) (now (work .entry)))) (p .tau * (p .n + p .m)) (now (packing .entry))) ⌝ }
 {
     let tau = p.tau;
     let mut done = 0;

@@ -1,28 +1,26 @@
--- What the clip program says: with work enough the call's line is `clipLine` of the input; every line has room in sixteen bytes; an input that is cut behind 65,536
--- bytes has the line of the whole. Assumes nothing.
+-- What the clip program says: every line has room in sixteen bytes; an input that is cut behind 65,536 bytes has the line of the whole. Assumes nothing.
 use mathlib.Core.Path.{_≡_, refl, sym, ap, _∙_, subst}
 use mathlib.Core.Bool.{Bool, true, false, cond}
 use mathlib.Core.List.{List, [], _∷_}
-use Prim.Native.Nat.{ℕ, _≤_, _<_}
+use Prim.Native.Nat.{ℕ, _-_, _≤_, _<_, min}
+use native.Mathlib.Nat.{min-eq-left, min-eq-right}
 use native.Mathlib.Omega.{arith}
-use native.Mathlib.Decide.{decLt, ℕ-discrete}
+use native.Mathlib.Decide.{decLe, decLt, ℕ-discrete}
 use lib.Dec.{ltb}
-use lib.ListN.{length, take}
+use lib.ListN.{length, take, drop}
 use lib.Seq.{take-all}
-use Rattle.memory.specs.Lists.{over}
 use Rattle.field.specs.Packing.{packedLength}
 use Rattle.sets.specs.Sets.{S, rows, paramsOf, publicKeyLength, signatureLength}
-use Rattle.refusals.specs.Refusals.{messageLimit, workLength, badSet, differs, verifySizes, orElse}
-use Rattle.refusals.proofs.Refusals.{verify-at-most, right-verify, orElse-right, orElse-refused, orElse-done}
+use Rattle.refusals.specs.Refusals.{messageLimit, badSet, differs, orElse}
+use Rattle.refusals.proofs.Refusals.{orElse-right, orElse-refused, orElse-done}
 use Rattle.envelope.specs.Bits.{bits, spelled, bitsOf, field}
 use Rattle.envelope.specs.Envelope.{headerLength, theVersion, headerOf, placed, headerNumber, readNumber, keyBytes, signatureBytes, messageBytes}
 use Rattle.envelope.proofs.Cut.{cut-reads-alike}
-use Rattle.envelope.proofs.Outcomes.{parts-sized}
 use Rattle.envelope.proofs.Sizes.{longest, read-right, legal-at-most}
-use Rattle.biscuit.specs.Desk.{acceptNumber, verifyNumber}
+use Rattle.biscuit.specs.Desk.{acceptNumber}
 use Rattle.biscuit.specs.Verify.{accepts}
 use Rattle.report.specs.Decimal.{lastDigits, decimal}
-use Rattle.report.specs.Report.{refusedWord, refusedLine, said, clipNumber, clipLine, reportNumber, ReportOutcome, reportEnded, reportOutcome}
+use Rattle.report.specs.Report.{refusedWord, refusedLine, said, clipNumber, clipLine}
 use Rattle.report.proofs.Lines.{refused-fits, genuine-fits}
 use Rattle.report.proofs.Outcomes.{said-genuine, said-refused}
 
@@ -48,73 +46,44 @@ read-small e =
     (cond-small (ltb messageLimit (headerOf e .length)) 3 _ (omega arith)
     (cond-small (differs (length e) (placed (headerOf e) .end)) 10 0 (omega arith) (omega arith)))))
 
-verify-small : (set : ℕ) (pk msg sig work : List ℕ) → verifyNumber set pk msg sig work < 256
-unfolding verifyNumber acceptNumber
-verify-small set pk msg sig work =
-    let s = verify-at-most set (length pk) (length msg) (length sig) (length work) in
-    either-small (verifySizes set (length pk) (length msg) (length sig) (length work)) _ (omega arith)
-    (cond-small (accepts (paramsOf set) pk msg sig) 0 9 (omega arith) (omega arith))
+accept-small : (set : ℕ) (pk msg sig : List ℕ) → acceptNumber set pk msg sig < 256
+unfolding acceptNumber
+accept-small set pk msg sig = cond-small (accepts (paramsOf set) pk msg sig) 0 9 (omega arith) (omega arith)
 
-reported-read : (e work : List ℕ) → reportNumber e work ≡ 0 → readNumber e ≡ 0
-unfolding reportNumber
-reported-read e work z = let d = orElse-done (readNumber e) _ z in d .0
+clip-small : (e : List ℕ) → clipNumber e < 256
+unfolding clipNumber
+clip-small e = either-small (readNumber e) _ (read-small e) (accept-small (headerOf e .set) (keyBytes e) (messageBytes e) (signatureBytes e))
 
-reported-small : (e work : List ℕ) → reportNumber e work < 256
-unfolding reportNumber
-reported-small e work = either-small (readNumber e) _ (read-small e) (verify-small (headerOf e .set) (keyBytes e) (messageBytes e) (signatureBytes e) work)
+clip-read : (e : List ℕ) → clipNumber e ≡ 0 → readNumber e ≡ 0
+unfolding clipNumber
+clip-read e z = let d = orElse-done (readNumber e) _ z in d .0
 
 -- ---- every line has room in sixteen bytes
 
-pub line-fits : (e work : List ℕ) → length (said (reportNumber e work) (headerOf e)) ≤ 16
-line-fits e work =
-    elim (ℕ-discrete (reportNumber e work) 0) as (λ d. length (said (reportNumber e work) (headerOf e)) ≤ 16) [
-      | yes z ↦ (let right = read-right e (reported-read e work z) .right in
+pub line-fits : (e : List ℕ) → length (clipLine e) ≤ 16
+unfolding clipLine
+line-fits e =
+    elim (ℕ-discrete (clipNumber e) 0) as (λ d. length (clipLine e) ≤ 16) [
+      | yes z ↦ (let right = read-right e (clip-read e z) .right in
           let known = right .known .to in
           let message = right .message in
-          subst (λ (l : List ℕ). length l ≤ 16) (sym (said-genuine (headerOf e) (reportNumber e work) z)) (genuine-fits (headerOf e) (omega arith) (omega arith)))
+          subst (λ (l : List ℕ). length l ≤ 16) (sym (said-genuine (headerOf e) (clipNumber e) z)) (genuine-fits (headerOf e) (omega arith) (omega arith)))
       | no n ↦
-          subst (λ (l : List ℕ). length l ≤ 16) (sym (said-refused (headerOf e) (reportNumber e work) n)) (refused-fits (reportNumber e work) (reported-small e work))
+          subst (λ (l : List ℕ). length l ≤ 16) (sym (said-refused (headerOf e) (clipNumber e) n)) (refused-fits (clipNumber e) (clip-small e))
     ]
-
-pub count-fits : (e lineBefore workBefore : List ℕ) (count : ℕ) (line work : List ℕ) → reportEnded count line work ≡ reportOutcome e lineBefore workBefore → count ≤ 16
-unfolding reportOutcome
-count-fits e lineBefore workBefore count line work p =
-    let c = ap (λ (o : ReportOutcome). o .count) p in
-    let f = line-fits e workBefore in
-    omega arith
-
--- ---- the line of the clip program
-
--- where reading says 0 the sizes are those that verifying asks for
-verify-right : (e work : List ℕ) → readNumber e ≡ 0 → workLength ≤ length work
-    → verifySizes (headerOf e .set) (length (keyBytes e)) (length (messageBytes e)) (length (signatureBytes e)) (length work) ≡ 0
-verify-right e work z room =
-    let right = read-right e z .right in
-    let size = parts-sized e z in
-    let m = right .message in
-    let l = size .message in
-    right-verify (headerOf e .set) (length (keyBytes e)) (length (messageBytes e)) (length (signatureBytes e)) (length work) (
-    record { known = right .known; message = omega arith; publicKey = size .key; signature = size .signature; work = room }
-    )
-
--- With 65,536 bytes of work or more, the number of the call is the clip's: reading, then verification.
-pub reported-number : (e work : List ℕ) → workLength ≤ length work → reportNumber e work ≡ clipNumber e
-unfolding reportNumber clipNumber verifyNumber
-reported-number e work room =
-    elim (ℕ-discrete (readNumber e) 0) as (λ d. reportNumber e work ≡ clipNumber e) [
-      | yes z ↦ ap (orElse (readNumber e)) (orElse-right _ _ (verify-right e work z room))
-      | no n ↦ orElse-refused (readNumber e) _ n ∙ sym (orElse-refused (readNumber e) _ n)
-    ]
-
--- With 65,536 bytes of work or more, the line that the call lays out is the clip's.
-pub reported-line : (e lineBefore workBefore : List ℕ) (ended : ReportOutcome) → ended ≡ reportOutcome e lineBefore workBefore → workLength ≤ length workBefore
-    → (ended .count ≡ length (clipLine e)) × (ended .line ≡ over (clipLine e) lineBefore)
-unfolding reportOutcome clipLine
-reported-line e lineBefore workBefore ended p room =
-    let n = ap (λ (k : ℕ). said k (headerOf e)) (reported-number e workBefore room) in
-    (ap (λ (o : ReportOutcome). o .count) p ∙ ap length n, ap (λ (o : ReportOutcome). o .line) p ∙ ap (λ (l : List ℕ). over l lineBefore) n)
 
 -- ---- an input that is cut
+
+-- the part that is read of a list: its first n entries, or all of them where n is more
+pub part-read : (n end most : ℕ) (l : List ℕ) → length l ≡ most → end ≡ min n most → take (end - 0) (drop 0 l) ≡ take n l
+part-read n end most l size e =
+    elim (decLe n most) as (λ d. take (end - 0) (drop 0 l) ≡ take n l) [
+      | yes h ↦ (let m = e ∙ min-eq-left h in
+          let s : end - 0 ≡ n = omega arith in
+          ap (λ (k : ℕ). take k l) s)
+      | no h ↦ (let m = e ∙ min-eq-right {n = most} {m = n} (omega arith) in
+          take-all (end - 0) l (omega arith) ∙ sym (take-all n l (omega arith)))
+    ]
 
 -- "It reads at most 65,536 bytes; a longer input is still longer than any legal envelope": what is cut behind that many bytes has the line of the whole.
 pub cut-line : (n : ℕ) (e : List ℕ) → longest < n → clipLine (take n e) ≡ clipLine e

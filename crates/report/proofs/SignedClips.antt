@@ -7,7 +7,6 @@ use native.Mathlib.Omega.{arith}
 use lib.ListN.{length, take, replicate, length-replicate}
 use Rattle.sets.specs.Sets.{paramsOf, secretKeyLength, publicKeyLength, signatureLength}
 use Rattle.refusals.specs.Refusals.{workLength}
-use Rattle.refusals.proofs.Refusals.{orElse-right}
 use Rattle.envelope.specs.declared.Header.{Header}
 use Rattle.envelope.specs.declared.Reading.{Reading}
 use Rattle.envelope.specs.Envelope.{theVersion, header, headerOf, placed, WriteOutcome, writeOutcome, readNumber, readOutcome, keyBytes, signatureBytes, messageBytes, Lent, keyIn, signatureIn, messageIn}
@@ -16,14 +15,13 @@ use Rattle.envelope.proofs.RoundTrip.{read-what-was-written}
 use Rattle.biscuit.specs.Keys.{publicHalf}
 use Rattle.biscuit.specs.Desk.{MakeKeysOutcome, makeKeysOutcome, SignOutcome, signOutcome, verifyNumber, verifyOutcome}
 use Rattle.biscuit.proofs.SignedIsAccepted.{signed-is-accepted, made-signed-accepted}
-use Rattle.report.specs.Report.{genuineLine, clipNumber, clipLine, reportNumber}
-use Rattle.report.proofs.Outcomes.{said-genuine}
-use Rattle.report.proofs.Clips.{reported-number}
+use Rattle.report.specs.Report.{genuineLine, clipNumber, clipLine}
+use Rattle.report.proofs.Outcomes.{said-genuine, verified-number}
 
 -- the number of the call that verifies
-verified-number : (set : ℕ) (pk msg sig work : List ℕ) → verifyOutcome set pk msg sig work .number ≡ verifyNumber set pk msg sig work
+outcome-number : (set : ℕ) (pk msg sig work : List ℕ) → verifyOutcome set pk msg sig work .number ≡ verifyNumber set pk msg sig work
 unfolding verifyOutcome
-verified-number set pk msg sig work = refl
+outcome-number set pk msg sig work = refl
 
 -- an envelope that was written with the number 0, of parts that a call with work enough verifies with the number 0
 module _ (set : ℕ) (pk sig msg envelopeBefore : List ℕ) (writing : WriteOutcome)
@@ -33,7 +31,7 @@ module _ (set : ℕ) (pk sig msg envelopeBefore : List ℕ) (writing : WriteOutc
   written = take (placed (header theVersion set (length msg)) .end) (writing .envelope)
 
   accepted-clip : clipLine written ≡ genuineLine (header theVersion set (length msg))
-  unfolding clipLine reportNumber
+  unfolding clipLine
   accepted-clip =
       let x : Lent = record { block = 0; place = 0; held = written } in
       let back = read-what-was-written set pk sig msg envelopeBefore writing wrote done x refl in
@@ -45,7 +43,7 @@ module _ (set : ℕ) (pk sig msg envelopeBefore : List ℕ) (writing : WriteOutc
       let m = sym (message-told x (messageIn x) refl) ∙ back .message in
       let at = ap (λ (h : Header). h .set) head in
       let same : verifyNumber (headerOf written .set) (keyBytes written) (messageBytes written) (signatureBytes written) work ≡ verifyNumber set pk msg sig work = cc in
-      let zero : clipNumber written ≡ 0 = sym (reported-number written work room) ∙ orElse-right (readNumber written) _ legal ∙ same ∙ accepted in
+      let zero : clipNumber written ≡ 0 = sym (verified-number written work legal room) ∙ same ∙ accepted in
       said-genuine (headerOf written) (clipNumber written) zero ∙ ap genuineLine head
 
 -- work of 65,536 zeros, for which the theorems on signing are asked
@@ -65,7 +63,7 @@ signed-clip-is-genuine set sk msg rnd sigBefore signWork envelopeBefore signing 
     let pk = publicHalf (paramsOf set) sk in
     let sig = take (signatureLength (paramsOf set)) (signing .signature) in
     accepted-clip set pk sig msg envelopeBefore writing q y zeros zeros-enough
-    (sym (verified-number set pk msg sig zeros)
+    (sym (outcome-number set pk msg sig zeros)
     ∙ signed-is-accepted set sk msg rnd sigBefore signWork zeros signing (verifyOutcome set pk msg sig zeros) p z zeros-enough refl)
 
 -- The same with keys that were made with the number 0, under the public key that was made with the secret one.
@@ -80,5 +78,5 @@ made-signed-clip-is-genuine set circuitSeed secretSeed skBefore pkBefore makeWor
     let pk = take (publicKeyLength (paramsOf set)) (made .publicKey) in
     let sig = take (signatureLength (paramsOf set)) (signing .signature) in
     accepted-clip set pk sig msg envelopeBefore writing q y zeros zeros-enough
-    (sym (verified-number set pk msg sig zeros)
+    (sym (outcome-number set pk msg sig zeros)
     ∙ made-signed-accepted set circuitSeed secretSeed skBefore pkBefore makeWork msg rnd sigBefore signWork zeros made signing (verifyOutcome set pk msg sig zeros) g x p z zeros-enough refl)

@@ -1,20 +1,36 @@
 // What the clip program says of the bytes that it has read: one line, `genuine S L` or `refused R` (document 01, "The clip envelope"). All that decides is here;
-// the program reads its input and writes the line. The call takes any arguments.
+// the program reads its input and writes the line. The call takes any arguments, and has its work of its own.
 use envelope::Header;
 use refusals::DONE;
+use refusals::WORK;
 ghost use mathlib.Core.Path.{_≡_};
 ghost use Prim.Native.Nat.{_+_, _≤_, _<_};
-ghost use lib.ListN.{length};
+ghost use lib.ListN.{length, take};
 ghost use Rattle.memory.specs.Lists.{over, put};
+ghost use Rattle.refusals.specs.Refusals.{workLength, workAfter};
 ghost use Rattle.report.specs.Decimal.{decimal};
-ghost use Rattle.report.specs.Report.{genuineLine, refusedLine, reportEnded, reportOutcome};
+ghost use Rattle.report.specs.Report.{genuineLine, refusedLine, clipNumber, clipLine};
 
 // Room for the longest line: `genuine`, a set of one digit and a length of five.
 pub const ROOM: usize = 16;
 
+// The most bytes that the program reads.
+pub const INPUT: usize = 65536;
+
+// The line for what the program has read: the first n bytes of the input, or all of them where n is more. Writes the line over the start of the lent one, and gives its length.
+pub fn clip_line(input: &[u8; INPUT], n: usize, line: &mut [u8; ROOM]) -> usize
+    ensures { λ r. ⌜ (r ≡ length (clipLine (take n (now (input .entry))))) × (now (line .exit) ≡ over (clipLine (take n (now (input .entry)))) (now (line .entry))) ⌝ }
+{
+    let whole: &[u8] = input;
+    let end = memory::lesser(n, INPUT);
+    let mut work = [0u8; WORK];
+    line_for(&whole[0..end], line, &mut work)
+}
+
 // The line for an envelope: reading it, then verifying it, for which work is lent. Writes the line over the start of the lent one, and gives its length.
-pub fn line_for(input: &[u8], line: &mut [u8], work: &mut [u8]) -> usize
-    ensures { λ r. ⌜ reportEnded r (now (line .exit)) (now (work .exit)) ≡ reportOutcome (now (input .entry)) (now (line .entry)) (now (work .entry)) ⌝ }
+fn line_for(input: &[u8], line: &mut [u8], work: &mut [u8]) -> usize
+    requires { ⌜ workLength ≤ length (now work) ⌝ }
+    ensures { λ r. ⌜ (r ≡ length (clipLine (now (input .entry)))) × (now (line .exit) ≡ over (clipLine (now (input .entry))) (now (line .entry))) × (now (work .exit) ≡ workAfter (clipNumber (now (input .entry))) (now (work .entry))) ⌝ }
 {
     let reading = envelope::read(input);
     if reading.number != DONE {

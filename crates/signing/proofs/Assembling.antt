@@ -8,19 +8,19 @@ use native.Mathlib.Omega.{arith}
 use lib.Dec.{eqb}
 use lib.ListN.{length, getD, length-append}
 use borrow.Author.Tests.{ne-eqb}
-use Rattle.memory.specs.Lists.{StandsAt, put}
+use Rattle.memory.specs.Lists.{put}
 use Rattle.memory.proofs.Parts.{put-next}
 use Rattle.memory.proofs.Lists.{table-of}
-use Rattle.memory.proofs.Stands.{stands-joined, stands-same, part-stands}
-use Rattle.field.specs.Packing.{Bytes, pack, packedLength, unpack, strayCleared}
+use Rattle.memory.proofs.Stands.{StandsAt, stands-self, stands-joined, stands-same, part-stands}
+use Rattle.field.specs.Packing.{Bytes, pack, packedLength, unpack}
 use Rattle.field.proofs.Packing.{length-unpack}
-use Rattle.field.proofs.Stray.{pack-unpack}
+use Rattle.field.proofs.Stray.{strayCleared, pack-unpack}
 use Rattle.vectors.specs.Elements.{elementsAt}
 use Rattle.vectors.proofs.Elements.{length-elements-at, elements-at-unpack}
 use Rattle.sets.specs.declared.Params.{Params}
 use Rattle.biscuit.specs.Signature.{Signature, repeated, shown, vectors, written, vectorCount}
 use Rattle.biscuit.proofs.Written.{all-pairs, all-vectors}
-use Rattle.biscuit.proofs.Repeated.{among, stands-self, stands-repeated}
+use Rattle.biscuit.proofs.Repeated.{among, stands-repeated}
 
 -- salt, both hashes, what is shown and the packing, one behind the other
 pub sections-written : (P : Params) (σ : Signature) (salt head body packing : List ℕ) → salt ≡ σ .salt → head ≡ σ .h₁ ++ σ .h₂ → body ≡ repeated (P .tau) (λ e. shown (σ .opening e))

@@ -7,7 +7,7 @@ use lib.ListN.{length, getD, take, drop, length-append, length-drop, drop-of-len
 use lib.Seq.{take-at, drop-at, take-all, drop-drop, getD-drop, length-take-le}
 use Rattle.memory.specs.Lists.{put}
 use Rattle.memory.proofs.Parts.{length-put, drop-put, lent-put, length-lent}
-use Rattle.field.specs.Packing.{Bytes, nib, pack, packedLength}
+use Rattle.field.specs.Packing.{Bytes, pack, packedLength}
 use Rattle.sets.specs.Sets.{S, signatureLength}
 use Rattle.sets.specs.declared.Params.{Params}
 use Rattle.forms.specs.Room.{HoldsCircuit}
@@ -18,8 +18,8 @@ use Rattle.biscuit.specs.Sign.{Signer, f, opening, signed}
 use Rattle.opening.specs.Shown.{leafOf, shownOf}
 use Rattle.opening.proofs.Turning.{length-all-shown, length-all-leaves}
 use Rattle.passes.specs.Passes.{HoldsRoots, HoldsCorrections}
-use Rattle.replies.specs.Replies.{HoldsChallenges, Challenged, HoldsHidden, HoldsLeaves, HoldsAlphas, alphaAt}
-use Rattle.replies.proofs.Hiding.{challenged-below}
+use Rattle.replies.specs.Replies.{HoldsChallenges, Challenged, HoldsHidden, alphaAt}
+use Rattle.replies.proofs.Hiding.{HoldsAlphas, ShownTo, challenged-below, below-shown, alphas-signed}
 use Rattle.signing.proofs.Assembling.{packing-written}
 use Rattle.signing.proofs.Rooted.{taken-size, shown-in-signature, back-size, back-circuit, back-challenges, back-leaves}
 use Rattle.signing.proofs.Sizes.{sections}
@@ -147,19 +147,19 @@ module _ (P : Params) (fits : Fits P) (x w salt secret hidden l o : List ℕ) (a
     corrections = subst (HoldsCorrections P signer (P .tau)) (sym (lent-packing P x o a b e size head body end shows-size)) (known .corrections);
   }
 
-  pub opened : (q : List ℕ) → length q ≡ length (take (e - b) (drop b (take a x ++ (o ++ drop (b - a) (drop a x)))))
-      → ((signer : Signer) (msg : List ℕ) → Challenged P signer msg salt secret (take (e - b) (drop b (take a x ++ (o ++ drop (b - a) (drop a x))))) (take c w ++ (l ++ drop (d - c) (drop c w)))
-      → HoldsHidden P signer msg hidden → HoldsLeaves P signer msg (drop (rootsAt P) (take c w ++ (l ++ drop (d - c) (drop c w)))) → HoldsAlphas P signer msg (P .tau) q)
-      → ((j : ℕ) → j < P .tau * (P .n + P .m) → nib q j ≡ nib (take (e - b) (drop b (take a x ++ (o ++ drop (b - a) (drop a x))))) j)
+  pub opened : length secret ≡ P .n + P .m + P .m → (q : List ℕ) → length q ≡ length (take (e - b) (drop b (take a x ++ (o ++ drop (b - a) (drop a x)))))
+      → ShownTo P salt secret hidden (take c w ++ (l ++ drop (d - c) (drop c w))) (P .tau) (take (e - b) (drop b (take a x ++ (o ++ drop (b - a) (drop a x))))) q
       → Bytes (take b (take a x ++ (o ++ drop (b - a) (drop a x))) ++ (q ++ drop (e - b) (drop b (take a x ++ (o ++ drop (b - a) (drop a x))))))
       → (signer : Signer) (msg : List ℕ) → Challenged P signer msg salt secret (drop (packingAt P) x) w → HoldsRoots P signer (drop (rootsAt P) w) → HoldsHidden P signer msg hidden
       → take b (take a x ++ (o ++ drop (b - a) (drop a x))) ++ (q ++ drop (e - b) (drop b (take a x ++ (o ++ drop (b - a) (drop a x)))))
       ≡ take (headLength P) x ++ (repeated (P .tau) (λ e. shown (signed P signer msg .opening e)) ++ pack (vectors P (signed P signer msg)))
-  opened q kept writes keeps bytes signer msg known roots hides =
+  opened elements q kept shown bytes signer msg known roots hides =
       let salted = known .held .salted in
       let back = challenged-back signer msg known in
-      let alphas = writes signer msg back hides (back-leaves P fits w room-size c d at to l leaves-size signer msg salt hidden salted hides roots leaves) in
-      let stay = challenged-below P signer msg salt secret _ q _ keeps back .corrections in
+      let work = take c w ++ (l ++ drop (d - c) (drop c w)) in
+      let lent = take (e - b) (drop b (take a x ++ (o ++ drop (b - a) (drop a x)))) in
+      let alphas = alphas-signed P salt secret hidden work lent q packing-sized shown elements signer msg back hides (back-leaves P fits w room-size c d at to l leaves-size signer msg salt hidden salted hides roots leaves) in
+      let stay = challenged-below P signer msg salt secret lent q work (below-shown P salt secret hidden work lent q packing-sized shown) back .corrections in
       three-sections P x o a b e size head body end shows-size q (kept ∙ packing-sized)
       ∙ ap₂ (λ (u v : List ℕ). take (headLength P) x ++ (u ++ v))
       (shown-in-signature P fits w room-size c d at to signer msg salt hidden salted hides roots o shows)

@@ -7,6 +7,7 @@ use lib.ListN.{length, take, drop, length-drop}
 use lib.Seq.{take-append-le, drop-append-le}
 use Rattle.memory.specs.Lists.{put}
 use Rattle.memory.proofs.Parts.{length-put, from-put, lent-put, length-lent}
+use Rattle.memory.proofs.Stands.{stands-read}
 use Rattle.sets.specs.Sets.{S}
 use Rattle.sets.specs.declared.Params.{Params}
 use Rattle.refusals.specs.Refusals.{workLength}
@@ -14,13 +15,14 @@ use Rattle.biscuit.specs.Room.{Fits, leavesAt, rootsAt, challengesAt, rootIn}
 use Rattle.biscuit.specs.Signature.{repeated, shown}
 use Rattle.biscuit.specs.Sign.{Signer, signed}
 use Rattle.biscuit.proofs.Parts.{part-of-taken, take-before-put, drop-behind-put}
-use Rattle.biscuit.proofs.Repeated.{among, repeated-stands, stands-read}
+use Rattle.biscuit.proofs.Repeated.{among, repeated-stands}
 use Rattle.biscuit.proofs.Room.{mapped}
 use Rattle.opening.specs.Shown.{leafOf, shownOf}
 use Rattle.opening.proofs.Turning.{length-leafOf}
 use Rattle.opening.proofs.Signed.{leaf-signed, all-shown-signed}
 use Rattle.passes.specs.Passes.{HoldsRoots}
-use Rattle.replies.specs.Replies.{HoldsHidden, HoldsLeaves}
+use Rattle.replies.specs.Replies.{HoldsHidden}
+use Rattle.replies.proofs.Hiding.{HoldsLeaves}
 
 module _ (P : Params) (fits : Fits P) (w : List ℕ) (size : length w ≡ workLength) (c d : ℕ) (at : c ≡ rootsAt P) (to : d ≡ challengesAt P) where
   -- ---- lent

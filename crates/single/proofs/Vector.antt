@@ -15,7 +15,7 @@ use Rattle.field.specs.Field.{coefficient}
 use Rattle.field.specs.Packing.{nib, pack, unpack, packedLength}
 use Rattle.field.specs.Vectors.{_!_, dot}
 use Rattle.field.proofs.Packing.{length-pack, nib-pack, nib-append-left, nib-append-right}
-use Rattle.field.proofs.Sums.{sumOf-stop}
+use Rattle.field.proofs.Sums.{dotOf-stop}
 use Rattle.marks.specs.Marks.{EachWord, laneSum}
 use Rattle.forms.specs.Circuit.{linear}
 use Rattle.forms.specs.Room.{circuitLength, affineIn}
@@ -85,7 +85,7 @@ first-out n m first width words size circuit s sums out₀ out ef ew en es eo ek
     ext-getD 0 out (linear (affineIn n m circuit) s) (ek ∙ eo ∙ sym l) (λ k h.
     each k (omega arith)
     ∙ rows k (omega arith)
-    ∙ sumOf-stop n (16 * words) (λ j. nib circuit ((first + k * width) * 2 + j)) (λ j. s ! j) en (λ i g. getD-past s i (omega arith))
+    ∙ dotOf-stop n (16 * words) (λ j. nib circuit ((first + k * width) * 2 + j)) (λ j. s ! j) en (λ i g. getD-past s i (omega arith))
     ∙ sym (row-dot circuit (first + k * width) n s)
     ∙ ap₂ (λ (a b : ℕ). dot (unpack n (drop (a + k * b) circuit)) s) ef ew
     ∙ sym (linear-at (affineIn n m circuit) s k ∙ ap (λ (row : List ℕ). dot row s) (row-in n m circuit k (omega arith))))

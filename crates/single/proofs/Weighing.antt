@@ -15,9 +15,9 @@ use Rattle.memory.proofs.Every.{every-at, same2}
 use Rattle.memory.proofs.Entries.{part-lent, entry-more}
 use Rattle.field.specs.Field.{mul, coefficient, polynomialProduct, without, modulus}
 use Rattle.field.specs.Packing.{nib}
-use Rattle.field.specs.Sums.{sumOf}
+use Rattle.field.specs.Sums.{dotOf}
 use Rattle.field.proofs.Laws.{mul-xor-l, mul-low-r}
-use Rattle.field.proofs.Sums.{sumOf-add}
+use Rattle.field.proofs.Sums.{dotOf-add}
 use Rattle.lanes.specs.Lanes.{lane, Times, WordAt}
 use Rattle.lanes.proofs.Laws.{lane-lt, lane-zero, lane-xor, lane-and, lane-masked}
 use Rattle.marks.specs.Marks as marks
@@ -86,8 +86,8 @@ unfoldable pub weighed : ℕ → ℕ → ℕ → ℕ → ℕ
 weighed a b c d = marks.sumOf 16 (λ k. weigh (lane k a) (lane k b) (lane k c) (lane k d))
 
 -- sums of products are sums
-sums-same : (n : ℕ) (f g : ℕ → ℕ) → marks.sumOf n (λ i. mul (f i) (g i)) ≡ sumOf n f g
-unfolding sumOf marks.sumOf
+sums-same : (n : ℕ) (f g : ℕ → ℕ) → marks.sumOf n (λ i. mul (f i) (g i)) ≡ dotOf n f g
+unfolding dotOf marks.sumOf
 sums-same zero f g = refl
 sums-same (suc n) f g = ap (λ (x : ℕ). bitXor x (mul (f n) (g n))) (sums-same n f g)
 
@@ -112,8 +112,8 @@ module _ (bytes : List ℕ) (at w : ℕ) (s : ℕ → ℕ) (a b c d x m0 m1 m2 m
       (weigh-xor (lane k a) (lane k b) (lane k c) (lane k d) _ _ _ _
       ∙ ap (bitXor (weigh (lane k a) (lane k b) (lane k c) (lane k d))) (product-bits (lane k x) (s (16 * w + k)) (lane-lt k x) ∙ ap (λ (v : ℕ). mul v (s (16 * w + k))) (row-lane k h)))
 
-  weighed-more : weighed a b c d ≡ sumOf (16 * w) (λ j. nib bytes (at * 2 + j)) s
-      → weighed (bitXor a (bitAnd x m0)) (bitXor b (bitAnd x m1)) (bitXor c (bitAnd x m2)) (bitXor d (bitAnd x m3)) ≡ sumOf (16 * (w + 1)) (λ j. nib bytes (at * 2 + j)) s
+  weighed-more : weighed a b c d ≡ dotOf (16 * w) (λ j. nib bytes (at * 2 + j)) s
+      → weighed (bitXor a (bitAnd x m0)) (bitXor b (bitAnd x m1)) (bitXor c (bitAnd x m2)) (bitXor d (bitAnd x m3)) ≡ dotOf (16 * (w + 1)) (λ j. nib bytes (at * 2 + j)) s
   unfolding weighed
   weighed-more so-far =
       let f : ℕ → ℕ = λ j. nib bytes (at * 2 + j) in
@@ -121,14 +121,14 @@ module _ (bytes : List ℕ) (at w : ℕ) (s : ℕ → ℕ) (a b c d x m0 m1 m2 m
       (λ k. bitXor (weigh (lane k a) (lane k b) (lane k c) (lane k d)) (mul (f (16 * w + k)) (s (16 * w + k)))) more-lane
       ∙ sum-xor 16 (λ k. weigh (lane k a) (lane k b) (lane k c) (lane k d)) (λ k. mul (f (16 * w + k)) (s (16 * w + k)))
       ∙ ap₂ bitXor so-far (sums-same 16 (λ k. f (16 * w + k)) (λ k. s (16 * w + k)))
-      ∙ sym (sumOf-add (16 * w) 16 f s)
-      ∙ ap (λ (n : ℕ). sumOf n f s) (let e : 16 * w + 16 ≡ 16 * (w + 1) = omega arith in e)
+      ∙ sym (dotOf-add (16 * w) 16 f s)
+      ∙ ap (λ (n : ℕ). dotOf n f s) (let e : 16 * w + 16 ≡ 16 * (w + 1) = omega arith in e)
 
 -- with the masks as they stand
 pub row-more : (bytes masks : List ℕ) (at w : ℕ) (s : ℕ → ℕ) (a b c d x : ℕ) → w < 8 → WordAt bytes (at + 8 * w) x → MasksOf s 8 masks
-    → weighed a b c d ≡ sumOf (16 * w) (λ j. nib bytes (at * 2 + j)) s
+    → weighed a b c d ≡ dotOf (16 * w) (λ j. nib bytes (at * 2 + j)) s
     → weighed (bitXor a (bitAnd x (getD masks (w * 4) 0))) (bitXor b (bitAnd x (getD masks (w * 4 + 1) 0))) (bitXor c (bitAnd x (getD masks (w * 4 + 2) 0))) (bitXor d (bitAnd x (getD masks (w * 4 + 3) 0)))
-    ≡ sumOf (16 * (w + 1)) (λ j. nib bytes (at * 2 + j)) s
+    ≡ dotOf (16 * (w + 1)) (λ j. nib bytes (at * 2 + j)) s
 unfolding MasksOf
 row-more bytes masks at w s a b c d x h word held =
     weighed-more bytes at w s a b c d x (getD masks (w * 4) 0) (getD masks (w * 4 + 1) 0) (getD masks (w * 4 + 2) 0) (getD masks (w * 4 + 3) 0) word
@@ -143,8 +143,8 @@ zeros-sum : marks.sumOf 16 (λ k. 0) ≡ 0
 unfolding marks.sumOf
 zeros-sum = refl
 
-pub weighed-none : (f s : ℕ → ℕ) → weighed 0 0 0 0 ≡ sumOf (16 * 0) f s
-unfolding weighed sumOf
+pub weighed-none : (f s : ℕ → ℕ) → weighed 0 0 0 0 ≡ dotOf (16 * 0) f s
+unfolding weighed dotOf
 weighed-none f s =
     sum-same 16 (λ k. weigh (lane k 0) (lane k 0) (lane k 0) (lane k 0)) (λ k. 0) (λ k h. rw (lane-zero k) weigh-zeros) ∙ zeros-sum
 
@@ -185,8 +185,8 @@ unfolding RowsOf
 rows-none bytes start width count s out k h = absurd (omega arith)
 
 pub rows-more : (bytes : List ℕ) (start width count : ℕ) (s : ℕ → ℕ) (out : List ℕ) (k at r : ℕ) → k < length out → at ≡ start + k * width → RowsOf bytes start width count s k out
-    → marks.laneSum r ≡ sumOf count (λ j. nib bytes (at * 2 + j)) s → RowsOf bytes start width count s (k + 1) (set out k r)
+    → marks.laneSum r ≡ dotOf count (λ j. nib bytes (at * 2 + j)) s → RowsOf bytes start width count s (k + 1) (set out k r)
 unfolding RowsOf
 rows-more bytes start width count s out k at r h e done row =
-    entry-more (λ i x. marks.laneSum x ≡ sumOf count (λ j. nib bytes ((start + i * width) * 2 + j)) s) out k r h done
-    (row ∙ ap (λ (i : ℕ). sumOf count (λ j. nib bytes (i * 2 + j)) s) e)
+    entry-more (λ i x. marks.laneSum x ≡ dotOf count (λ j. nib bytes ((start + i * width) * 2 + j)) s) out k r h done
+    (row ∙ ap (λ (i : ℕ). dotOf count (λ j. nib bytes (i * 2 + j)) s) e)

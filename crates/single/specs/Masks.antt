@@ -7,7 +7,7 @@ use lib.Bits.{bitXor}
 use lib.ListN.{getD}
 use Rattle.field.specs.Field.{mul, coefficient}
 use Rattle.field.specs.Packing.{nib}
-use Rattle.field.specs.Sums.{sumOf}
+use Rattle.field.specs.Sums.{dotOf}
 use Rattle.lanes.specs.Lanes.{lane}
 use Rattle.marks.specs.Marks.{laneSum}
 
@@ -21,7 +21,7 @@ MasksOf s words masks = (w b k : ℕ) → w < words → b < 4 → k < 16 → lan
 
 -- the lanes of each of the first m words add up to a row of `count` coefficients times s; the rows stand `width` bytes apart, from the byte `start` on
 unfoldable pub RowsOf : List ℕ → ℕ → ℕ → ℕ → (ℕ → ℕ) → ℕ → List ℕ → Type 0
-RowsOf bytes start width count s m words = (k : ℕ) → k < m → laneSum (getD words k 0) ≡ sumOf count (λ j. nib bytes ((start + k * width) * 2 + j)) s
+RowsOf bytes start width count s m words = (k : ℕ) → k < m → laneSum (getD words k 0) ≡ dotOf count (λ j. nib bytes ((start + k * width) * 2 + j)) s
 
 -- a + 2b + 4c + 8d
 abbrev pub weigh : ℕ → ℕ → ℕ → ℕ → ℕ

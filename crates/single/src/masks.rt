@@ -5,7 +5,7 @@ ghost use Prim.Native.Nat.{ℕ, _+_, _*_, _≤_, _<_};
 ghost use lib.ListN.{length, getD};
 ghost use Rattle.field.specs.Packing.{nib};
 ghost use Rattle.field.specs.Vectors.{_!_};
-ghost use Rattle.field.specs.Sums.{sumOf};
+ghost use Rattle.field.specs.Sums.{dotOf};
 ghost use Rattle.lanes.specs.Lanes.{lane};
 ghost use Rattle.marks.specs.Marks.{laneSum};
 ghost use Rattle.single.specs.Masks.{MaskOf, MasksOf, RowsOf, weigh};
@@ -75,7 +75,7 @@ pub fn rows(bytes: &[u8], start: usize, width: usize, words: usize, masks: &[u64
 // A word whose lanes add up to a row's product with the vector of the masks.
 fn row(bytes: &[u8], at: usize, words: usize, masks: &[u64]) -> u64
     requires { ⌜ (words ≤ 8) × (at + 8 * words ≤ length (now bytes)) × (length (now masks) ≡ 32) ⌝ }
-    ensures { λ r. ⌜ ((s : ℕ → ℕ) → MasksOf s 8 (now (masks .entry)) → laneSum r ≡ sumOf (16 * words) (λ j. nib (now (bytes .entry)) (at * 2 + j)) s) ⌝ }
+    ensures { λ r. ⌜ ((s : ℕ → ℕ) → MasksOf s 8 (now (masks .entry)) → laneSum r ≡ dotOf (16 * words) (λ j. nib (now (bytes .entry)) (at * 2 + j)) s) ⌝ }
 {
     let mut a = 0;
     let mut b = 0;

@@ -1,6 +1,6 @@
 // A part of a block: bytes xored into the lanes of a state from a place on, and bytes given from there. Whole words go by lanes.
 ghost use mathlib.Core.Path.{_≡_};
-ghost use Prim.Native.Nat.{_+_, _-_, _*_, _/_, _%_, _^_, _≤_, _<_, min};
+ghost use Prim.Native.Nat.{_+_, _-_, _*_, _%_, _≤_, _<_, min};
 ghost use lib.ListN.{length, take, drop};
 ghost use Rattle.memory.specs.Lists.{put};
 ghost use Rattle.sponge.specs.Sponge.{rate, little, byteAt};
@@ -30,8 +30,7 @@ pub fn xor(lanes: &mut [u64; 25], at: usize, bytes: &[u8])
 fn before(at: usize, n: usize) -> usize
     ensures { λ r. ⌜ r ≡ min ((8 - at % 8) % 8) n ⌝ }
 {
-    let h = (8 - at % 8) % 8;
-    if h < n { h } else { n }
+    memory::lesser((8 - at % 8) % 8, n)
 }
 
 // Xors the bytes into the lane that holds byte `at` of the state.

@@ -3,8 +3,8 @@
 -- on check values hold of every circuit and all parties with the totals named, at any equation; two parties that have these totals show that there are some. Assumes nothing.
 use mathlib.Core.Path.{_≡_, refl, sym, ap, _∙_}
 use mathlib.Core.Logic.{_↔_}
-use mathlib.Core.List.{List, [], _∷_, _++_, map}
-use Prim.Native.Nat.{ℕ, zero, suc, _<_}
+use mathlib.Core.List.{List, [], _∷_, map}
+use Prim.Native.Nat.{ℕ, suc, _<_}
 use lib.Bits.{bitXor, xor-self}
 use lib.ListN.{getD}
 use Rattle.memory.proofs.Bits.{xor-zero-same}

@@ -1,16 +1,16 @@
 // One call of the desk and the rest of its line. Each run lends of every part as many bytes as the case says, and fills outputs and work before the call.
-use desk_cases::line;
-use desk_cases::marks::lent;
-use desk_cases::marks::number;
-use desk_cases::places::CIRCUIT_SEED;
-use desk_cases::places::MESSAGE;
-use desk_cases::places::PUBLIC_KEY;
-use desk_cases::places::RANDOM;
-use desk_cases::places::SECRET_KEY;
-use desk_cases::places::SECRET_SEED;
-use desk_cases::places::SIGNATURE;
-use desk_cases::places::STORE;
-use desk_cases::table::ROW;
+use crate::line;
+use crate::marks::lent;
+use crate::marks::number;
+use crate::places::CIRCUIT_SEED;
+use crate::places::MESSAGE;
+use crate::places::PUBLIC_KEY;
+use crate::places::RANDOM;
+use crate::places::SECRET_KEY;
+use crate::places::SECRET_SEED;
+use crate::places::SIGNATURE;
+use crate::places::STORE;
+use crate::table::ROW;
 ghost use mathlib.Core.Path.{_≡_};
 ghost use Prim.Native.Nat.{_≤_};
 ghost use lib.ListN.{length};
@@ -23,9 +23,7 @@ const PUBLIC: usize = 94;
 const WORK: usize = 65537;
 
 // Make keys, and put them into the store.
-pub fn make_keys(set: usize, row: &[u8; ROW], store: &mut [u8])
-    requires { ⌜ length (now store) ≡ 33207 ⌝ }
-{
+pub fn make_keys(set: usize, row: &[u8; ROW], store: &mut [u8; STORE]) {
     let mut secret_key = [0u8; SECRET];
     let mut public_key = [0u8; PUBLIC];
     make_keys_parts(set, row, store, &mut secret_key, &mut public_key);
@@ -37,12 +35,13 @@ pub fn make_keys(set: usize, row: &[u8; ROW], store: &mut [u8])
 fn make_keys_parts(
     set: usize,
     row: &[u8; ROW],
-    store: &[u8],
+    store: &[u8; STORE],
     secret_key: &mut [u8],
     public_key: &mut [u8],
 )
-    requires { ⌜ (length (now store) ≡ 33207) × (length (now «secret_key») ≡ 213) × (length (now «public_key») ≡ 94) ⌝ }
+    requires { ⌜ (length (now «secret_key») ≡ 213) × (length (now «public_key») ≡ 94) ⌝ }
 {
+    let parts = &store[..];
     let mut work = [0u8; WORK];
     let n = number(set, row);
     let a = lent(set, row, 1, CIRCUIT_SEED, SECRET_SEED);
@@ -52,8 +51,8 @@ fn make_keys_parts(
     let e = lent(set, row, 8, 0, WORK);
     make_keys_line(
         n,
-        &store[CIRCUIT_SEED..a],
-        &store[SECRET_SEED..b],
+        &parts[CIRCUIT_SEED..a],
+        &parts[SECRET_SEED..b],
         &mut secret_key[0..c],
         &mut public_key[0..d],
         &mut work[0..e],
@@ -85,9 +84,8 @@ fn keep(bytes: &[u8], from: usize, next: usize, store: &mut [u8])
 }
 
 // Public half with the lengths of the case.
-pub fn public_half(set: usize, row: &[u8; ROW], store: &[u8])
-    requires { ⌜ length (now store) ≡ 33207 ⌝ }
-{
+pub fn public_half(set: usize, row: &[u8; ROW], store: &[u8; STORE]) {
+    let parts = &store[..];
     let mut public_key = [0u8; PUBLIC];
     let mut work = [0u8; WORK];
     let n = number(set, row);
@@ -96,7 +94,7 @@ pub fn public_half(set: usize, row: &[u8; ROW], store: &[u8])
     let c = lent(set, row, 8, 0, WORK);
     public_half_line(
         n,
-        &store[SECRET_KEY..a],
+        &parts[SECRET_KEY..a],
         &mut public_key[0..b],
         &mut work[0..c],
     );
@@ -112,9 +110,10 @@ fn public_half_line(set: usize, secret_key: &[u8], public_key: &mut [u8], work: 
 }
 
 // Sign with the lengths of the case.
-pub fn sign(set: usize, row: &[u8; ROW], store: &[u8], signature: &mut [u8])
-    requires { ⌜ (length (now store) ≡ 33207) × (length (now signature) ≡ 27349) ⌝ }
+pub fn sign(set: usize, row: &[u8; ROW], store: &[u8; STORE], signature: &mut [u8])
+    requires { ⌜ length (now signature) ≡ 27349 ⌝ }
 {
+    let parts = &store[..];
     let mut work = [0u8; WORK];
     let n = number(set, row);
     let a = lent(set, row, 3, SECRET_KEY, PUBLIC_KEY);
@@ -124,9 +123,9 @@ pub fn sign(set: usize, row: &[u8; ROW], store: &[u8], signature: &mut [u8])
     let e = lent(set, row, 8, 0, WORK);
     sign_line(
         n,
-        &store[SECRET_KEY..a],
-        &store[MESSAGE..b],
-        &store[RANDOM..c],
+        &parts[SECRET_KEY..a],
+        &parts[MESSAGE..b],
+        &parts[RANDOM..c],
         &mut signature[0..d],
         &mut work[0..e],
     );
@@ -149,9 +148,9 @@ fn sign_line(
 }
 
 // Verify with the lengths of the case.
-pub fn verify(set: usize, row: &[u8; ROW], store: &[u8], signature: &[u8])
-    requires { ⌜ (length (now store) ≡ 33207) × (length (now signature) ≡ 27349) ⌝ }
-{
+pub fn verify(set: usize, row: &[u8; ROW], store: &[u8; STORE], signature: &[u8; SIGNATURE]) {
+    let parts = &store[..];
+    let signed = &signature[..];
     let mut work = [0u8; WORK];
     let n = number(set, row);
     let a = lent(set, row, 4, PUBLIC_KEY, MESSAGE);
@@ -160,9 +159,9 @@ pub fn verify(set: usize, row: &[u8; ROW], store: &[u8], signature: &[u8])
     let d = lent(set, row, 8, 0, WORK);
     verify_line(
         n,
-        &store[PUBLIC_KEY..a],
-        &store[MESSAGE..b],
-        &signature[0..c],
+        &parts[PUBLIC_KEY..a],
+        &parts[MESSAGE..b],
+        &signed[0..c],
         &mut work[0..d],
     );
 }

@@ -1,24 +1,26 @@
 // The lines of verifying: the hidden party's α, the first hash, and then the second.
+use crate::cases::Case;
+use crate::cases::REPETITION;
+use crate::cases::VALUES;
+use crate::cases::WORK;
+use crate::inputs;
+use crate::print;
 use crate::second;
 use group::Rep;
-use party_cases::cases::Case;
-use party_cases::cases::REPETITION;
-use party_cases::inputs;
-use party_cases::print;
 use sets::LONGEST_HASH;
 use sets::LONGEST_SEED;
 use sets::MOST_EQUATIONS;
 use sponge::Sponge;
 ghost use mathlib.Core.Path.{_≡_};
-ghost use Prim.Native.Nat.{_*_, _≤_, _<_};
+ghost use Prim.Native.Nat.{_≤_, _<_};
 ghost use lib.ListN.{length};
 ghost use Rattle.forms.specs.Room.{circuitLength};
 ghost use Rattle.group.specs.Shares.{Sized, valuesLength};
-ghost use Rattle.party_cases.specs.Laid.{Laid};
+ghost use Rattle.test_parties.specs.Laid.{Laid};
 
 // The lines of a verifier; none where no party is hidden.
-pub fn lines(k: Case, salt: &[u8], h1: &[u8], values: &mut [u8], work: &mut [u8])
-    requires { ⌜ (Laid k) × (length (now salt) ≤ 64) × (length (now values) ≡ 602) × (length (now work) ≡ 60768) ⌝ }
+pub fn lines(k: Case, salt: &[u8], h1: &[u8], values: &mut [u8; VALUES], work: &mut [u8; WORK])
+    requires { ⌜ (Laid k) × (length (now salt) ≤ 64) ⌝ }
 {
     if k.hidden == 0 {
         return;
@@ -44,10 +46,10 @@ fn first_lines(
     salt: &[u8],
     seed: &mut [u8],
     commitment: &mut [u8],
-    values: &mut [u8],
-    work: &mut [u8],
+    values: &mut [u8; VALUES],
+    work: &mut [u8; WORK],
 )
-    requires { ⌜ (Laid k) × (length (now salt) ≤ 64) × (0 < k .hidden) × (length (now seed) ≡ k .s) × (length (now values) ≡ 602) × (length (now work) ≡ 60768) ⌝ }
+    requires { ⌜ (Laid k) × (length (now salt) ≤ 64) × (0 < k .hidden) × (length (now seed) ≡ k .s) ⌝ }
 {
     inputs::hidden_seed(k, salt, seed);
     hashes::commit(salt, REPETITION, k.hidden, seed, commitment);
@@ -57,13 +59,14 @@ fn first_lines(
 }
 
 // Puts the α of the party with this seed into its place, and prints it.
-fn put_alpha(k: Case, salt: &[u8], seed: &[u8], values: &mut [u8], work: &[u8])
-    requires { ⌜ (Laid k) × (length (now salt) ≤ 64) × (0 < k .hidden) × (length (now seed) ≡ k .s) × (length (now values) ≡ 602) × (length (now work) ≡ 60768) ⌝ }
+fn put_alpha(k: Case, salt: &[u8], seed: &[u8], values: &mut [u8; VALUES], work: &[u8; WORK])
+    requires { ⌜ (Laid k) × (length (now salt) ≤ 64) × (0 < k .hidden) × (length (now seed) ≡ k .s) ⌝ }
 {
     let a = k.leaves;
     let m = k.m;
+    let all = &work[..];
     let mut alpha = [0u8; MOST_EQUATIONS];
-    with_alpha(k, salt, seed, &work[0..a], &mut alpha[0..m], values);
+    with_alpha(k, salt, seed, &all[0..a], &mut alpha[0..m], values);
 }
 
 // The same, with room for α.
@@ -124,8 +127,8 @@ fn alpha_line(k: Case, alpha: &[u8]) {
 }
 
 // The lines of the first hash.
-fn hash_lines(k: Case, salt: &[u8], commitment: &[u8], values: &[u8], work: &[u8])
-    requires { ⌜ (Laid k) × (length (now salt) ≤ 64) × (length (now values) ≡ 602) × (length (now work) ≡ 60768) ⌝ }
+fn hash_lines(k: Case, salt: &[u8], commitment: &[u8], values: &[u8; VALUES], work: &[u8; WORK])
+    requires { ⌜ (Laid k) × (length (now salt) ≤ 64) ⌝ }
 {
     let part = first_hash(Sponge::new(), k, salt, commitment, values, work);
     print::part(k, b", commitments and corrections, digest", part);
@@ -140,24 +143,26 @@ fn first_hash(
     k: Case,
     salt: &[u8],
     commitment: &[u8],
-    values: &[u8],
-    work: &[u8],
+    values: &[u8; VALUES],
+    work: &[u8; WORK],
 ) -> Sponge
-    requires { ⌜ (Laid k) × (length (now salt) ≤ 64) × (length (now values) ≡ 602) × (length (now work) ≡ 60768) ⌝ }
+    requires { ⌜ (Laid k) × (length (now salt) ≤ 64) ⌝ }
 {
     let n = k.n;
     let a = n + k.m;
     let from = k.leaves;
     let to = k.room;
+    let all = &work[..];
+    let vectors = &values[..];
     let next = views::commit_all(
         hash,
         salt,
         REPETITION,
-        &work[from..to],
+        &all[from..to],
         k.s,
         16 * k.groups,
         k.hidden,
         commitment,
     );
-    views::absorb_corrections(next, &values[0..n], &values[n..a])
+    views::absorb_corrections(next, &vectors[0..n], &vectors[n..a])
 }

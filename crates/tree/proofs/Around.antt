@@ -16,7 +16,8 @@ use Rattle.memory.proofs.Lists.{room}
 use Rattle.memory.proofs.Parts.{put-next, length-put}
 use Rattle.memory.proofs.Sections.{Each, no-section, one-more, each-append, put-before, part-in-put, copied-part, cleared-part, length-flatten, flatten-append, length-pieces, getD-pieces, take-pieces, drop-pieces, pieces-put, flatten-pieces, pieces-before-put}
 use Rattle.tree.specs.Tree.{children, newSeeds, position, sibling, getSeeds, getPath, getPathSeeds, filled}
-use Rattle.tree.specs.Coded.{spread, besideBlank, around, codedAt, coded}
+use Rattle.tree.specs.Spread.{spread, besideBlank, around}
+use Rattle.tree.proofs.Coded.{codedAt, coded}
 use Rattle.tree.proofs.Positions.{Bit, even, odd, bit, sibling-odd, sibling-even}
 use Rattle.tree.proofs.Levels.{Kids}
 use Rattle.tree.proofs.Hiding.{length-besideBlank, length-around, filled-hide}

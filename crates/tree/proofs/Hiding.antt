@@ -12,7 +12,7 @@ use lib.Dec.{eqb}
 use lib.ListN.{length, getD, take, drop, set, length-append, length-drop, length-map}
 use lib.Seq.{split-at, length-take-le}
 use Rattle.tree.specs.Tree.{Pair, newSeeds, towards, beside, besideNone, newKnown, hide, filled}
-use Rattle.tree.specs.Coded.{besideBlank, around}
+use Rattle.tree.specs.Spread.{besideBlank, around}
 use Rattle.tree.proofs.Positions.{Bit, even, odd, bit}
 use Rattle.tree.proofs.Levels.{Kids, length-newSeeds, newSeeds-append}
 

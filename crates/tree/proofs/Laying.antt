@@ -19,7 +19,7 @@ use Rattle.sponge.proofs.Laws.{length-shake256}
 use Rattle.hashes.specs.Hashes.{childFields, childSeeds}
 use Rattle.hashes.proofs.Laws.{length-childSeeds}
 use Rattle.tree.specs.Tree.{children, newSeeds, seedsAt, getSeeds}
-use Rattle.tree.specs.Coded.{spread}
+use Rattle.tree.specs.Spread.{spread}
 use Rattle.tree.proofs.Levels.{Kids, length-newSeeds}
 use Rattle.tree.proofs.Theorems.{length-getSeeds}
 

@@ -15,6 +15,9 @@ Kids = ℕ → List ℕ → Pair
 
 -- ---- the children of a level
 
+count : (j n : ℕ) → suc j + n ≡ j + suc n
+count j n = omega arith
+
 pub length-newSeeds : (kids : Kids) (j : ℕ) (l : List (List ℕ)) → length (newSeeds kids j l) ≡ 2 * length l
 unfolding newSeeds
 length-newSeeds kids j [] = refl
@@ -26,10 +29,7 @@ newSeeds-append kids j [] y = ap (λ (n : ℕ). newSeeds kids n y) (sym (add-zer
 newSeeds-append kids j (s ∷ x) y =
     ap (λ (l : List (List ℕ)). kids j s .seed₁ ∷ kids j s .seed₂ ∷ l)
     (newSeeds-append kids (suc j) x y
-    ∙ ap (λ (n : ℕ). newSeeds kids (suc j) x ++ newSeeds kids n y) (count (length x)))
-  where
-    count : (n : ℕ) → suc j + n ≡ j + suc n
-    count n = omega arith
+    ∙ ap (λ (n : ℕ). newSeeds kids (suc j) x ++ newSeeds kids n y) (count j (length x)))
 
 -- the first child of the parent at q stands at 2q, the second behind it
 pub getD-newSeeds-even : (kids : Kids) (j : ℕ) (l : List (List ℕ)) (q : ℕ) → q < length l → getD (newSeeds kids j l) (2 * q) [] ≡ kids (j + q) (getD l q []) .seed₁
@@ -39,13 +39,10 @@ getD-newSeeds-even kids j (s ∷ l) zero h = ap (λ (n : ℕ). kids n s .seed₁
 getD-newSeeds-even kids j (s ∷ l) (suc q) h =
     ap (λ (n : ℕ). getD (kids j s .seed₁ ∷ kids j s .seed₂ ∷ newSeeds kids (suc j) l) n []) (twice q)
     ∙ getD-newSeeds-even kids (suc j) l q (omega arith)
-    ∙ ap (λ (n : ℕ). kids n (getD l q []) .seed₁) (count q)
+    ∙ ap (λ (n : ℕ). kids n (getD l q []) .seed₁) (count j q)
   where
     twice : (n : ℕ) → 2 * suc n ≡ suc (suc (2 * n))
     twice n = omega arith
-
-    count : (n : ℕ) → suc j + n ≡ j + suc n
-    count n = omega arith
 
 pub getD-newSeeds-odd : (kids : Kids) (j : ℕ) (l : List (List ℕ)) (q : ℕ) → q < length l → getD (newSeeds kids j l) (2 * q + 1) [] ≡ kids (j + q) (getD l q []) .seed₂
 unfolding newSeeds
@@ -54,13 +51,10 @@ getD-newSeeds-odd kids j (s ∷ l) zero h = ap (λ (n : ℕ). kids n s .seed₂)
 getD-newSeeds-odd kids j (s ∷ l) (suc q) h =
     ap (λ (n : ℕ). getD (kids j s .seed₁ ∷ kids j s .seed₂ ∷ newSeeds kids (suc j) l) n []) (twice q)
     ∙ getD-newSeeds-odd kids (suc j) l q (omega arith)
-    ∙ ap (λ (n : ℕ). kids n (getD l q []) .seed₂) (count q)
+    ∙ ap (λ (n : ℕ). kids n (getD l q []) .seed₂) (count j q)
   where
     twice : (n : ℕ) → 2 * suc n + 1 ≡ suc (suc (2 * n + 1))
     twice n = omega arith
-
-    count : (n : ℕ) → suc j + n ≡ j + suc n
-    count n = omega arith
 
 -- at p stands the child that is on the way to p, and at its sibling's place the other
 module _ (kids : Kids) (l : List (List ℕ)) (p : ℕ) (inside : p / 2 < length l) where

@@ -1,6 +1,7 @@
 pub mod Positions
 pub mod Levels
 pub mod Hiding
+pub mod Coded
 pub mod Theorems
 pub mod Laying
 pub mod Walking

@@ -11,7 +11,7 @@ use native.Mathlib.Omega.{arith}
 use lib.ListN.{length, getD, length-append, List·getD-append}
 use lib.Seq.{getD-at}
 use Rattle.tree.specs.Tree.{Children, seedsAt, getSeeds, position, sibling, towards, beside, onWay, pathAt, getPath, newKnown, knownAt, getPathSeeds, hide, filled}
-use Rattle.tree.specs.Coded.{codedAt, coded}
+use Rattle.tree.proofs.Coded.{codedAt, coded}
 use Rattle.tree.proofs.Positions.{position-last, position-half, position-lt, position-zero}
 use Rattle.tree.proofs.Levels.{length-newSeeds, getD-newSeeds, getD-newSeeds-sibling}
 use Rattle.tree.proofs.Hiding.{length-around, newKnown-around, filled-newKnown, around-own}

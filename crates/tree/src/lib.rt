@@ -3,13 +3,13 @@
 // No seed chooses a branch or an address; the hidden party does, and is public by then.
 ghost use mathlib.Core.Path.{_≡_};
 ghost use mathlib.Core.List.{[], flatten};
-ghost use Prim.Native.Nat.{_+_, _-_, _*_, _/_, _%_, _^_, _≤_, _<_};
+ghost use Prim.Native.Nat.{_+_, _-_, _*_, _/_, _^_, _≤_, _<_};
 ghost use lib.ListN.{length, getD, take, drop, replicate};
 ghost use Rattle.memory.specs.Lists.{put};
 ghost use Rattle.memory.specs.Sections.{pieces};
 ghost use Rattle.hashes.specs.Hashes.{childSeeds};
 ghost use Rattle.tree.specs.Tree.{children, getSeeds, towards, beside, sibling, getPath, getPathSeeds, filled};
-ghost use Rattle.tree.specs.Coded.{spread, besideBlank, around};
+ghost use Rattle.tree.specs.Spread.{spread, besideBlank, around};
 
 // The bytes of the largest seed.
 const SEED: usize = 32;

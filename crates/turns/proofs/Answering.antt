@@ -35,6 +35,9 @@ module _ (P : Params) (f : Fits P) (e h : ℕ) (rep : Rep) (same : rep ≡ repOf
   pub rep-leaves : 16 * rep .groups * rep .s ≡ roomAt P - leavesAt P
   rep-leaves = ap (λ (q : Rep). 16 * q .groups * q .s) same ∙ sym (leaves-groups P)
 
+  pub rep-front : circuitLength (rep .n) (rep .m) + 16 * rep .groups * rep .s ≡ roomAt P
+  rep-front = let a = rep-circuit in let b = rep-leaves in let m = mapped P in omega arith
+
   pub rep-rooms : rootsAt P ≡ circuitLength (rep .n) (rep .m) + 16 * rep .groups * rep .s + rep .groups * (16 * rep .m)
   rep-rooms = roots-is P ∙ sym (ap (λ (q : Rep). circuitLength (q .n) (q .m) + 16 * q .groups * q .s + q .groups * (16 * q .m)) same)
 

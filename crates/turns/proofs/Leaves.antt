@@ -10,7 +10,7 @@ use Rattle.memory.proofs.Lists.{room}
 use Rattle.memory.proofs.Sections.{Each, no-section, one-more, length-flatten, pieces-flatten, getD-pieces}
 use Rattle.memory.proofs.Xors.{length-part}
 use Rattle.tree.specs.Tree.{children, position, getPathSeeds, filled}
-use Rattle.tree.specs.Coded.{codedAt, coded}
+use Rattle.tree.proofs.Coded.{codedAt, coded}
 use Rattle.tree.proofs.Laying.{children-sized}
 use Rattle.tree.proofs.Around.{each-around}
 use Rattle.tree.proofs.Theorems.{filled-getPathSeeds, length-coded}

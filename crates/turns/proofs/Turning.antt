@@ -1,12 +1,12 @@
 -- One repetition: what it gives to the two hashes is what algorithm 13 says, and what was expanded for all repetitions stays where it is.
 -- Assumes nothing.
-use mathlib.Core.Path.{_≡_, sym, ap, ap₂, _∙_}
+use mathlib.Core.Path.{_≡_, refl, sym, ap, ap₂, subst, _∙_}
 use mathlib.Core.List.{List, [], _++_, flatten}
 use mathlib.Core.Option.{Option, Option·map}
 use Prim.Native.Nat.{ℕ, _+_, _-_, _*_, _/_, _≤_, _<_}
 use native.Mathlib.Omega.{arith}
 use lib.ListN.{length, getD, take, drop, replicate, length-drop}
-use lib.Seq.{drop-at, take-take, take-append-le}
+use lib.Seq.{take-at, drop-at, take-take, take-append-le, drop-append-le}
 use Rattle.memory.specs.Lists.{put}
 use Rattle.memory.specs.Sections.{pieces}
 use Rattle.memory.proofs.Sections.{drop-take}
@@ -19,6 +19,7 @@ use Rattle.sets.specs.declared.Params.{Params}
 use Rattle.hashes.specs.Hashes.{commit}
 use Rattle.tree.specs.Tree.{children, getPathSeeds, filled}
 use Rattle.forms.specs.Circuit.{Circuit}
+use Rattle.forms.specs.Room.{circuitLength}
 use Rattle.forms.proofs.Sampling.{Index, expandIndex-index}
 use Rattle.parties.specs.Parties.{Share, parties, corrected}
 use Rattle.parties.specs.Repetition.{hiddenParty, first, second, rawShare, knownShares, givenAt, leftOut, allComs, allAlphas, allVs}
@@ -27,6 +28,9 @@ use Rattle.views.proofs.Absorbing.{absorbed-known}
 use Rattle.group.specs.declared.Rep.{Rep}
 use Rattle.group.specs.Shares.{deltaS, deltaC, epsilon, target, alphaGiven}
 use Rattle.answers.specs.Answers.{sharesOf, answered}
+use Rattle.answers.specs.Passes.{circuitOf, leavesOf, HoldsRoom}
+use Rattle.answers.specs.Passes as passes
+use Rattle.answers.proofs.Work.{part-same}
 use Rattle.biscuit.specs.Keys.{PublicKey}
 use Rattle.biscuit.specs.Signature.{shownAt, openingOf, extracted}
 use Rattle.biscuit.specs.Verify.{f, ε, hidden, seeds, coms, shares, αs, allV}
@@ -35,7 +39,7 @@ use Rattle.biscuit.proofs.Parts.{length-first, drop-behind-put}
 use Rattle.biscuit.proofs.Places.{path-read}
 use Rattle.biscuit.proofs.Room.{mapped}
 use Rattle.reps.specs.Reps.{repOf}
-use Rattle.turns.specs.Turns.{circuitPart, leavesPart, leaves, firstOf, secondOf}
+use Rattle.turns.specs.Turns.{circuitPart, leavesPart, roomPart, Answered, leaves, rebuilt, TurnLeft, firstOf, secondOf}
 use Rattle.turns.proofs.Leaves.{leaves-left-out, length-filled, path-sized}
 use Rattle.turns.proofs.Reading.{Cut}
 use Rattle.turns.proofs.Sizes.{shown-fits, leaves-size}
@@ -172,7 +176,25 @@ module _ (P : Params) (fit : Fits P) (key : PublicKey) (x : List ℕ) (size : le
       two ∙ ap (λ (l : List ℕ). put l (leavesAt P) (leaves P key (extracted P x) (e + 1))) one
       ∙ put-again w (leavesAt P) (leaves P key (extracted P x) e) (leaves P key (extracted P x) (e + 1)) (b ∙ sym a) (omega arith)
 
--- the part of work up to the roots lent, and come back with the circuit in it
+-- the same of equal things
+pub answered-same : {P : Params} {e h h′ : ℕ} {salt v v′ before before′ after : List ℕ} → h ≡ h′ → v ≡ v′ → before ≡ before′
+    → Answered P (repOf P e h) salt v before after → Answered P (repOf P e h′) salt v′ before′ after
+answered-same {P} {e} {h} {h′} {salt} {v} {v′} {before} {before′} {after} eh ev eb a =
+    subst (λ (t : ℕ × List ℕ × List ℕ). Answered P (repOf P e (t .0)) salt (t .1) (t .2) after) (λ i. (eh i, ev i, eb i)) a
+
+-- what a repetition leaves of the circuit, and of what lies behind the room
+module _ (P : Params) (fit : Fits P) (key : PublicKey) (x : List ℕ) (size : length x ≡ signatureLength P) (e : ℕ) (from-one : 1 ≤ e) (within : e ≤ P .tau)
+    (w w′ : List ℕ) (enough : roomEnd P ≤ length w) (left : TurnLeft P key (extracted P x) e w w′) where
+  pub left-circuit : circuitPart P w′ ≡ circuitPart P w
+  left-circuit =
+      let m = mapped P in
+      part-same w′ (rebuilt P key (extracted P x) e w) 0 (leavesAt P) (roomAt P) (omega arith) (left .front)
+      ∙ put-circuit P w (leaves P key (extracted P x) e) _ enough (length-of-leaves P fit key x size e from-one within) refl
+
+  pub left-rest : drop (rootsAt P) w′ ≡ drop (rootsAt P) w
+  left-rest = left .rest ∙ put-rest P w (leaves P key (extracted P x) e) _ enough (length-of-leaves P fit key x size e from-one within) refl
+
+-- the part of work up to the roots lent, and come back with circuit, leaves and room in it
 module _ (P : Params) (w : List ℕ) (enough : roomEnd P ≤ length w) (d : ℕ) (at : d ≡ rootsAt P) where
   lent-all : take (d - 0) (drop 0 w) ≡ take (rootsAt P) w
   lent-all = ap (λ (n : ℕ). take n w) (let q : d - 0 ≡ rootsAt P = omega arith in q)
@@ -193,12 +215,31 @@ module _ (P : Params) (w : List ℕ) (enough : roomEnd P ≤ length w) (d : ℕ)
       ∙ drop-take (leavesAt P) (roomAt P - leavesAt P) w
 
   module _ (last : List ℕ) (kept : length last ≡ length (take (d - 0) (drop 0 w))) where
-    pub rooms-back-circuit : (c : ℕ) → c ≡ leavesAt P → take c last ≡ take c (take (d - 0) (drop 0 w)) → circuitPart P (last ++ drop (d - 0) (drop 0 w)) ≡ circuitPart P w
-    rooms-back-circuit c ec h =
+    pub rooms-back-front : (k : ℕ) → k ≡ roomAt P → take k last ≡ take k (take (d - 0) (drop 0 w)) → take (roomAt P) (last ++ drop (d - 0) (drop 0 w)) ≡ take (roomAt P) w
+    rooms-back-front k ek h =
         let m = mapped P in
         let l = rooms-length in
-        take-append-le (leavesAt P) last (drop (d - 0) (drop 0 w)) (omega arith)
-        ∙ ap (λ (n : ℕ). take n last) (sym ec) ∙ h ∙ rooms-circuit c ec
+        take-append-le (roomAt P) last (drop (d - 0) (drop 0 w)) (omega arith)
+        ∙ ap (λ (n : ℕ). take n last) (sym ek) ∙ h
+        ∙ ap₂ (λ (n : ℕ) (l : List ℕ). take n l) ek lent-all ∙ take-take (roomAt P) (rootsAt P) w (omega arith)
+
+    rooms-back-room : (k : ℕ) → k ≡ roomAt P → drop k last ≡ roomPart P (last ++ drop (d - 0) (drop 0 w))
+    rooms-back-room k ek =
+        let m = mapped P in
+        let l = rooms-length in
+        ap (λ (n : ℕ). drop n last) ek
+        ∙ sym (ap (take (rootsAt P - roomAt P)) (drop-append-le (roomAt P) last (drop (d - 0) (drop 0 w)) (omega arith))
+        ∙ take-at (drop (roomAt P) last) (drop (d - 0) (drop 0 w)) (rootsAt P - roomAt P) (length-drop (roomAt P) last ∙ (let q : length last - roomAt P ≡ rootsAt P - roomAt P = omega arith in q)))
+
+    -- the room, as the answers leave it
+    pub rooms-back-held : (rep rep′ : Rep) (salt salt′ values : List ℕ) → rep ≡ rep′ → salt ≡ salt′ → circuitLength (rep .n) (rep .m) ≡ leavesAt P → 16 * rep .groups * rep .s ≡ roomAt P - leavesAt P
+        → HoldsRoom rep (circuitOf rep (take (d - 0) (drop 0 w))) salt (leavesOf rep (take (d - 0) (drop 0 w))) values (drop (passes.roomAt rep) last)
+        → HoldsRoom rep′ (circuitPart P w) salt′ (leavesPart P w) values (roomPart P (last ++ drop (d - 0) (drop 0 w)))
+    rooms-back-held rep rep′ salt salt′ values er es ec el h =
+        let c = rooms-circuit (circuitLength (rep .n) (rep .m)) ec in
+        let l = rooms-leaves (circuitLength (rep .n) (rep .m)) (16 * rep .groups * rep .s) ec el in
+        let r = rooms-back-room (passes.roomAt rep) (let m = mapped P in omega arith) in
+        subst (λ (t : Rep × List ℕ × List ℕ × List ℕ × List ℕ). HoldsRoom (t .0) (t .1) (t .2) (t .3) values (t .4)) (λ i. (er i, c i, es i, l i, r i)) h
 
     pub rooms-back-rest : drop (rootsAt P) (last ++ drop (d - 0) (drop 0 w)) ≡ drop (rootsAt P) w
     rooms-back-rest =

@@ -1,2 +1,4 @@
 pub mod Elements
+pub mod Writing
+pub mod Laying
 pub mod OneOutcome

@@ -18,7 +18,6 @@ pub fn read_elements(bytes: &[u8], at: usize, out: &mut [u8])
 
 // The first element, where it is the second of its byte: gives how many are read then.
 fn read_first(bytes: &[u8], at: usize, out: &mut [u8]) -> usize
-    requires { ⌜ at ≤ 65536 ⌝ }
     ensures { λ r. ⌜ (r ≤ length (now (out .entry))) × (ReadTo (now (bytes .entry)) at r (now (out .exit))) ⌝ }
 {
     if at % 2 == 0 {
@@ -50,7 +49,7 @@ fn read_whole(bytes: &[u8], at: usize, i: usize, out: &mut [u8]) -> usize
     f
 }
 
-// Both elements of every byte.
+// Both elements of every byte: what `field::unpack_into` gives, by whole bytes and with no test for each element, for speed (docs/PERFORMANCE.md).
 fn halves(bytes: &[u8], out: &mut [u8])
     requires { ⌜ length (now out) ≡ length (now bytes) * 2 ⌝ }
     ensures { λ r. ⌜ now (out .exit) ≡ unpack (length (now (out .entry))) (now (bytes .entry)) ⌝ }

@@ -99,8 +99,8 @@ sampled salt e i seed from n size k h room =
     ∙ ap (λ (z : ℕ). nib (shake256 (tapeFields salt e i seed) z) (from * 2 + k)) (zero-add size)
 
 module _ (P : Params) (salt : List ℕ) (e : ℕ) (seeds : List (List ℕ)) where
-  abbrev pub sumOf : List ℕ
-  sumOf = tapeSum salt e (tapeLength (P .n) (P .m)) seeds
+  abbrev pub summed : List ℕ
+  summed = tapeSum salt e (tapeLength (P .n) (P .m)) seeds
 
   -- one law for the three parts: f is the part, which lies from the byte `from` on
   nib-sum : (f : Share → List ℕ) (from n k : ℕ) → k < n → from + packedLength n ≤ tapeLength (P .n) (P .m)
@@ -116,61 +116,61 @@ module _ (P : Params) (salt : List ℕ) (e : ℕ) (seeds : List (List ℕ)) wher
       (nib-total g (rawShare P salt e) f (from * 2 + k) k (λ i x. ap (λ (v : List ℕ). v ! k) (part i x) ∙ sampled salt e i x from n size k h room) 1 seeds)
       ∙ xor-zero-l (total (map f (numbered 1 (rawShare P salt e) seeds)) ! k)
 
-  pub nib-secret : (k : ℕ) → k < P .n → nib sumOf k ≡ secret (raws P salt e seeds) ! k
+  pub nib-secret : (k : ℕ) → k < P .n → nib summed k ≡ secret (raws P salt e seeds) ! k
   unfolding secret tapeLength rawShare
   nib-secret k h = nib-sum (λ p. p .s) 0 (P .n) k h (omega arith) (λ i x. refl)
 
-  pub nib-mask : (k : ℕ) → k < P .m → nib (drop (packedLength (P .n)) sumOf) k ≡ mask (raws P salt e seeds) ! k
+  pub nib-mask : (k : ℕ) → k < P .m → nib (drop (packedLength (P .n)) summed) k ≡ mask (raws P salt e seeds) ! k
   unfolding mask tapeLength rawShare
   nib-mask k h = nib-sum (λ p. p .a) (packedLength (P .n)) (P .m) k h (omega arith) (λ i x. refl)
 
-  pub nib-helper : (k : ℕ) → k < P .m → nib (drop (packedLength (P .n) + packedLength (P .m)) sumOf) k ≡ helper (raws P salt e seeds) ! k
+  pub nib-helper : (k : ℕ) → k < P .m → nib (drop (packedLength (P .n) + packedLength (P .m)) summed) k ≡ helper (raws P salt e seeds) ! k
   unfolding helper tapeLength rawShare
   nib-helper k h = nib-sum (λ p. p .c) (packedLength (P .n) + packedLength (P .m)) (P .m) k h (omega arith) (λ i x. refl)
 
   -- ---- the corrections
 
   -- algorithm 12, line 14
-  pub correction-deltaS : (s : List ℕ) → length s ≡ P .n → correctionS (P .n) s sumOf ≡ deltaS P salt e s seeds
+  pub correction-deltaS : (s : List ℕ) → length s ≡ P .n → correctionS (P .n) s summed ≡ deltaS P salt e s seeds
   unfolding correctionS deltaS
-  correction-deltaS s h = ext-getD 0 (s ⊕ unpack (P .n) sumOf) (s ⊕ secret (raws P salt e seeds)) (left ∙ sym (length-deltaS P salt e s seeds h)) (λ k g. entry k (omega (arith, left)))
+  correction-deltaS s h = ext-getD 0 (s ⊕ unpack (P .n) summed) (s ⊕ secret (raws P salt e seeds)) (left ∙ sym (length-deltaS P salt e s seeds h)) (λ k g. entry k (omega (arith, left)))
     where
-      left : length (s ⊕ unpack (P .n) sumOf) ≡ P .n
-      left = let a = length-⊕ s (unpack (P .n) sumOf) in let b = length-unpack (P .n) sumOf in omega arith
+      left : length (s ⊕ unpack (P .n) summed) ≡ P .n
+      left = let a = length-⊕ s (unpack (P .n) summed) in let b = length-unpack (P .n) summed in omega arith
 
-      entry : (k : ℕ) → k < P .n → (s ⊕ unpack (P .n) sumOf) ! k ≡ (s ⊕ secret (raws P salt e seeds)) ! k
+      entry : (k : ℕ) → k < P .n → (s ⊕ unpack (P .n) summed) ! k ≡ (s ⊕ secret (raws P salt e seeds)) ! k
       entry k g =
-          ⊕-at s (unpack (P .n) sumOf) k
-          ∙ ap (bitXor (s ! k)) (getD-unpack (P .n) sumOf k g ∙ nib-secret k g)
+          ⊕-at s (unpack (P .n) summed) k
+          ∙ ap (bitXor (s ! k)) (getD-unpack (P .n) summed k g ∙ nib-secret k g)
           ∙ sym (⊕-at s (secret (raws P salt e seeds)) k)
 
   -- algorithm 12, line 15
-  pub correction-deltaC : (y : List ℕ) → length y ≡ P .m → 0 < length seeds → correctionC (P .n) (P .m) y sumOf ≡ deltaC P salt e y seeds
+  pub correction-deltaC : (y : List ℕ) → length y ≡ P .m → 0 < length seeds → correctionC (P .n) (P .m) y summed ≡ deltaC P salt e y seeds
   unfolding correctionC deltaC
   correction-deltaC y h some =
       ext-getD 0 (y ⊙ a ⊕ c) (y ⊙ mask (raws P salt e seeds) ⊕ helper (raws P salt e seeds)) (left ∙ sym (length-deltaC P salt e y seeds some h))
       (λ k g. entry k (omega (arith, left)))
     where
       a : List ℕ
-      a = unpack (P .m) (drop (packedLength (P .n)) sumOf)
+      a = unpack (P .m) (drop (packedLength (P .n)) summed)
 
       c : List ℕ
-      c = unpack (P .m) (drop (packedLength (P .n) + packedLength (P .m)) sumOf)
+      c = unpack (P .m) (drop (packedLength (P .n) + packedLength (P .m)) summed)
 
       left : length (y ⊙ a ⊕ c) ≡ P .m
       left =
           let l = length-⊕ (y ⊙ a) c in
           let m = length-⊙ y a in
-          let b = length-unpack (P .m) (drop (packedLength (P .n)) sumOf) in
-          let d = length-unpack (P .m) (drop (packedLength (P .n) + packedLength (P .m)) sumOf) in
+          let b = length-unpack (P .m) (drop (packedLength (P .n)) summed) in
+          let d = length-unpack (P .m) (drop (packedLength (P .n) + packedLength (P .m)) summed) in
           omega arith
 
       entry : (k : ℕ) → k < P .m → (y ⊙ a ⊕ c) ! k ≡ (y ⊙ mask (raws P salt e seeds) ⊕ helper (raws P salt e seeds)) ! k
       entry k g =
           ⊕-at (y ⊙ a) c k
           ∙ ap₂ bitXor
-          (⊙-at y a k ∙ ap (mul (y ! k)) (getD-unpack (P .m) (drop (packedLength (P .n)) sumOf) k g ∙ nib-mask k g) ∙ sym (⊙-at y (mask (raws P salt e seeds)) k))
-          (getD-unpack (P .m) (drop (packedLength (P .n) + packedLength (P .m)) sumOf) k g ∙ nib-helper k g)
+          (⊙-at y a k ∙ ap (mul (y ! k)) (getD-unpack (P .m) (drop (packedLength (P .n)) summed) k g ∙ nib-mask k g) ∙ sym (⊙-at y (mask (raws P salt e seeds)) k))
+          (getD-unpack (P .m) (drop (packedLength (P .n) + packedLength (P .m)) summed) k g ∙ nib-helper k g)
           ∙ sym (⊕-at (y ⊙ mask (raws P salt e seeds)) (helper (raws P salt e seeds)) k)
 
   -- the corrections that the code works out, by the lengths of s and y

@@ -1,12 +1,10 @@
--- `answers::answers` meets its contract. The first pass absorbs every α, and the rest every v.
+-- `answers::answers` meets its contract. The first pass absorbs every α and fills the room, and the rest absorbs every v and changes no byte of work.
 -- Assumes nothing.
 use mathlib.Core.Path.{refl, sym, _∙_}
-use native.Mathlib.Omega.{arith}
-use Rattle.forms.specs.Room.{circuitLength}
-use Rattle.answers.specs.Passes.{circuitOf, leavesOf, roomAt}
+use Rattle.answers.specs.Passes.{circuitOf, leavesOf}
 use Rattle.answers.proofs.Values.{sums-passed, vs-of, all-answers}
 use Rattle.answers.proofs.Turning.{zeros-sized, zeros-part, lent-same, lent-sized, lent-fits, folded-same}
-use Rattle.answers.proofs.Work.{part-same, room-sized, room-held}
+use Rattle.answers.proofs.Work.{room-sized, room-held}
 use borrow.Author.Needs.{needs}
 use Rattle.answers.proofs.answers.Statement.{statement}
 use Rattle.answers.proofs.answers.Tie as tie
@@ -115,7 +113,7 @@ returns c =
           (λ alpha given d. vs-of r (circuitOf r w) (s .args .salt .now) (leavesOf r w) v (s .pre .3) (s .pre .1) alpha given _ _ _ (sums-passed r (circuitOf r w) (s .args .salt .now) (leavesOf r w) v (s .pre .3) (s .pre .1) _ _ _ _ (f .ensures .1 .0))
           (folded-same _ _ _ _ _ _ _ _ _ _ refl (lent-same 121 (s .args .rep .m) (f .last .1 .1 .1 .1 .0) (s .pre .0 .equations) (f .kept .1 .1 .1 .1 .0)) (lent-same 121 (s .args .rep .m) (f .last .1 .1 .1 .1 .1 .0) (s .pre .0 .equations) (f .kept .1 .1 .1 .1 .1 .0)) (lent-same 121 (s .args .rep .m) (f .last .1 .1 .1 .1 .1 .1 .0) (s .pre .0 .equations) (f .kept .1 .1 .1 .1 .1 .1 .0)) d))
           (room-held r (f .last .1 .1 .1 .1 .1 .1 .1 .0) _ _ (c .before .before .before .before .before .before .before .before .before .before .before .before .before .before .before .before .before .before .before .room-at .ensures) (sym (f .kept .1 .1 .1 .1 .1 .1 .1 .0)) _ _ (f .ensures .1 .0 .kept))) P h en em ec),
-      part-same (f .last .1 .1 .1 .1 .1 .1 .1 .0) w 0 (circuitLength (r .n) (r .m)) (roomAt r) (omega arith) (f .ensures .1 .1),
+      (f .ensures .1 .1, f .ensures .1 .0 .kept),
     )
 
 pub answers-spec : {M : Type 1} → statement M

@@ -3,7 +3,7 @@
 use mathlib.Core.Path.{_≡_, refl, _∙_}
 use native.Mathlib.Omega.{arith}
 use Prim.Native.Nat.{_+_, _-_, _*_, _≤_}
-use lib.ListN.{length, take}
+use lib.ListN.{length}
 use Rattle.memory.proofs.Xors.{length-sized}
 use Rattle.group.specs.Shares.{tapesOf}
 use Rattle.group.proofs.Tapes.{TapesTo, tapes-none, tapes-more, tapes-all, tape-of-party, seed-room}

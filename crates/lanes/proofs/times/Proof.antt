@@ -1,6 +1,5 @@
 -- `lanes::times` meets its contract: the word and its doubles under the four bits of e sum up to the product in each lane.
 -- Assumes nothing.
-use Prim.Native.Nat.{_/_}
 use Rattle.lanes.proofs.Products.{bit-fits, times-lanes}
 use borrow.Author.Needs.{needs}
 use Rattle.lanes.proofs.times.Statement.{statement}

@@ -4,7 +4,7 @@ use native.Mathlib.Omega.{arith}
 use Prim.Native.Nat.{_*_}
 use Rattle.sets.specs.Sets.{S}
 use Rattle.biscuit.proofs.Room.{some-groups, few-groups}
-use Rattle.passes.proofs.Committing.{corrections-secret, corrections-helper, committed-turn, part-secret, part-helper}
+use Rattle.passes.proofs.Committing.{committed-turn, part-secret, part-helper}
 use borrow.Author.Needs.{needs}
 use Rattle.passes.proofs.commit_in.Statement.{statement}
 use Rattle.passes.proofs.commit_in.Tie as tie
@@ -48,14 +48,14 @@ repetition-first-requires c κs =
     let o = some-groups (s .args .p) in
     let q = h .3 in
     let b = f .seed in
-    (omega arith, f .seed, omega arith, h .6 ∙ ap (λ n. 16 * n * S (s .args .p)) (sym g), f .variables, f .equations, part-secret (s .args .p) _ (h .4), part-helper (s .args .p) _ (h .4), h .7, h .8)
+    (omega arith, f .seed, omega arith, h .5 ∙ ap (λ n. 16 * n * S (s .args .p)) (sym g), f .variables, f .equations, part-secret (s .args .p) _ (h .4), part-helper (s .args .p) _ (h .4), h .6, h .7)
 
 write-corrections-requires : tie.Need-write-corrections-requires
 write-corrections-requires c κs =
     let s = c .before .before .before .before .before .before .before .before .before .before .before .before .before .before .before .before .before .before .before .before .before in
     let h = s .pre in
     let p = c .before .before .before .before .before .before .before .repetition-first in
-    (h .0, h .1, h .2, p .kept .1 .1 .1 .1 .1 .1 .1 .1 .0 ∙ h .7, corrections-secret _ _ _ _ _ _ _ _ _ _ (h .5) (p .ensures), p .kept .1 .1 .1 .1 .1 .1 .1 .1 .1 .0 ∙ h .8, corrections-helper _ _ _ _ _ _ _ _ _ _ (p .ensures), h .9)
+    (h .0, h .1, h .2, p .kept .1 .1 .1 .1 .1 .1 .1 .1 .0 ∙ h .6, p .kept .1 .1 .1 .1 .1 .1 .1 .1 .1 .0 ∙ h .7, h .8)
 
 same-length : tie.Need-same-length
 same-length c = c .before .before .before .before .before .before .before .before .before .before .repetition-first .kept .1 .1 .1 .1 .1 .1 .1 .1 .0

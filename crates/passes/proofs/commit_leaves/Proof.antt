@@ -32,7 +32,7 @@ commit-in-requires c κs =
     let h = s .pre in
     let v = h .0 .variables in
     let w = h .0 .equations in
-    (h .0, h .1, h .2, h .3, h .4, h .5, h .6, length-take-le (s .args .p .n - 0) (replicate 118 0) (omega arith) ∙ (let z : s .args .p .n - 0 ≡ s .args .p .n = omega arith in z), length-take-le (s .args .p .m - 0) (replicate 121 0) (omega arith) ∙ (let z : s .args .p .m - 0 ≡ s .args .p .m = omega arith in z), h .7)
+    (h .0, h .1, h .2, h .3, h .4, h .5, length-take-le (s .args .p .n - 0) (replicate 118 0) (omega arith) ∙ (let z : s .args .p .n - 0 ≡ s .args .p .n = omega arith in z), length-take-le (s .args .p .m - 0) (replicate 121 0) (omega arith) ∙ (let z : s .args .p .m - 0 ≡ s .args .p .m = omega arith in z), h .6)
 
 same-length : tie.Need-same-length
 same-length c = search needs

@@ -3,8 +3,8 @@ use mathlib.Core.Path.{ap, _∙_}
 use native.Mathlib.Omega.{arith}
 use lib.ListN.{length}
 use Rattle.biscuit.proofs.Room.{mapped}
-use Rattle.passes.proofs.Planting.{planted-part, length-planted, planted-kept}
-use Rattle.passes.proofs.Committing.{committed-seeds, kept-same}
+use Rattle.passes.proofs.Planting.{planted-part, length-planted}
+use Rattle.passes.proofs.Committing.{committed-seeds}
 use Rattle.passes.proofs.commit_turn.Statement.{statement}
 use Rattle.passes.proofs.commit_turn.Tie as tie
 
@@ -12,7 +12,7 @@ layout-of-requires : tie.Need-layout-of-requires
 layout-of-requires c κs = c .before .before .before .before .pre .0
 
 plant-requires : tie.Need-plant-requires
-plant-requires c κs = let h = c .before .before .before .before .before .before .pre in (h .0, h .1, h .2, h .3, h .7)
+plant-requires c κs = let h = c .before .before .before .before .before .before .pre in (h .0, h .1, h .2, h .3, h .6)
 
 sub-commit-leaves : tie.Need-sub-commit-leaves
 sub-commit-leaves c = let s = c .before .before .before .before .before .before .before .before .before in let h = s .pre in let m = mapped (s .args .p) in let enough = h .0 .enough in let k = c .before .before .before .before .layout-of .ensures in omega (arith, k .leaves, k .room)
@@ -21,7 +21,7 @@ part-commit-leaves-start : tie.Need-part-commit-leaves-start
 part-commit-leaves-start c = let s = c .before .before .before .before .before .before .before .before .before .before in let h = s .pre in let m = mapped (s .args .p) in let enough = h .0 .enough in let k = c .before .before .before .before .before .layout-of .ensures in omega (arith, k .leaves, k .room)
 
 part-commit-leaves-end : tie.Need-part-commit-leaves-end
-part-commit-leaves-end c = let s = c .before .before .before .before .before .before .before .before .before .before in let h = s .pre in let m = mapped (s .args .p) in let enough = h .0 .enough in let k = c .before .before .before .before .before .layout-of .ensures in let l = c .before .before .before .plant .kept .1 .1 .1 .0 ∙ h .7 in omega (arith, k .leaves, k .room)
+part-commit-leaves-end c = let s = c .before .before .before .before .before .before .before .before .before .before in let h = s .pre in let m = mapped (s .args .p) in let enough = h .0 .enough in let k = c .before .before .before .before .before .layout-of .ensures in let l = c .before .before .before .plant .kept .1 .1 .1 .0 ∙ h .6 in omega (arith, k .leaves, k .room)
 
 commit-leaves-requires : tie.Need-commit-leaves-requires
 commit-leaves-requires c κs =
@@ -32,10 +32,9 @@ commit-leaves-requires c κs =
       h .2,
       h .3,
       h .4,
+      ap length (planted-part (s .args .p) (h .0) (s .args .salt .now) (s .args .work .now) (h .6) (s .args .e) (h .1) (h .2) _ _ (c .before .before .before .before .before .before .before .layout-of .ensures) (c .before .before .before .before .before .plant .ensures))
+          ∙ length-planted (s .args .p) (h .0) (s .args .salt .now) (s .args .work .now) (h .6) (s .args .e) (h .1) (h .2),
       h .5,
-      ap length (planted-part (s .args .p) (h .0) (s .args .salt .now) (s .args .work .now) (h .7) (s .args .e) (h .1) (h .2) _ _ (c .before .before .before .before .before .before .before .layout-of .ensures) (c .before .before .before .before .before .plant .ensures))
-          ∙ length-planted (s .args .p) (h .0) (s .args .salt .now) (s .args .work .now) (h .7) (s .args .e) (h .1) (h .2),
-      h .6,
     )
 
 same-length : tie.Need-same-length
@@ -48,8 +47,8 @@ returns : tie.Need-returns
 returns c =
     let s = c .before .before .before .before .before .before .before .before .before .before .before .before .before .before .before in
     let h = s .pre in (
-      committed-seeds (s .args .p) (h .0) (s .args .salt .now) (s .args .work .now) (h .7) (s .args .e) (h .1) (h .2) _ _ (c .before .before .before .before .before .before .before .before .before .before .layout-of .ensures) (c .before .before .before .before .before .before .before .before .plant .ensures) _ _ _ _ _ (c .before .before .commit-leaves .ensures),
-      kept-same _ _ _ _ (c .before .before .before .before .before .before .before .before .plant .ensures) (planted-kept (s .args .p) (h .0) (s .args .salt .now) (s .args .work .now) (h .7) (s .args .e) (h .1) (h .2)),
+      committed-seeds (s .args .p) (h .0) (s .args .salt .now) (s .args .work .now) (h .6) (s .args .e) (h .1) (h .2) _ _ (c .before .before .before .before .before .before .before .before .before .before .layout-of .ensures) (c .before .before .before .before .before .before .before .before .plant .ensures) _ _ _ _ _ (c .before .before .commit-leaves .ensures),
+      c .before .before .before .before .before .before .before .before .plant .ensures,
     )
 
 pub commit-turn-spec : {M : Type 1} → statement M

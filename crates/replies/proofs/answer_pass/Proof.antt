@@ -1,33 +1,25 @@
--- `replies::answer_pass` meets its contract. The invariant: for every signer that has what is lent, the second hash has absorbed `done` repetitions.
+-- `replies::answer_pass` meets its contract. The invariant: whatever circuit work holds, the second hash has absorbed `done` repetitions.
 -- The repetitions are taken two at a time, and one that is left over by itself.
 -- Assumes nothing.
 use mathlib.Core.Path.{_≡_, refl, _∙_}
 use native.Mathlib.Omega.{arith}
-use mathlib.Core.List.{List}
-use Prim.Native.Nat.{ℕ, _+_, _-_, _≤_}
-use lib.ListN.{length, drop}
-use Rattle.answers.proofs.Absorbing.{Absorbing, absorbing-none}
-use Rattle.biscuit.specs.Signature.{repeated}
-use Rattle.biscuit.specs.Room.{rootsAt}
-use Rattle.biscuit.specs.Sign.{Signer}
-use Rattle.passes.specs.Passes.{HoldsRoots, Kept}
-use Rattle.passes.proofs.Committing.{kept-none, kept-more, roots-kept}
-use Rattle.replies.specs.Replies.{Challenged}
-use Rattle.replies.proofs.Answering.{answersUpTo, answering-more, answering-two, answered-all, challenged-kept}
+use Prim.Native.Nat.{_+_, _-_, _≤_}
+use lib.ListN.{length}
+use Rattle.passes.specs.Passes.{Kept}
+use Rattle.passes.proofs.Committing.{kept-none, kept-more}
+use Rattle.replies.proofs.Answering.{AnsweredTo, answering-none, answering-more, answering-two, answered-all}
 use Rattle.replies.proofs.answer_pass.Statement.{statement}
 use Rattle.replies.proofs.answer_pass.Tie as tie
 
 abbrev Inv-loop : tie.InvT-loop
 Inv-loop p salt secret packing work₀ tau next₀ done₀ work next done =
-    (done ≤ p .tau) × (length work ≡ length work₀) × Kept p work₀ work
-    × ((signer : Signer) (msg : List ℕ) → Challenged p signer msg salt secret packing work₀ → HoldsRoots p signer (drop (rootsAt p) work₀) → Absorbing next₀ next (answersUpTo p signer msg done) done)
+    (done ≤ p .tau) × (length work ≡ length work₀) × Kept p work₀ work × AnsweredTo p salt secret packing work₀ done next₀ next
 
 abbrev μ-loop : tie.MeasureT-loop
 μ-loop p salt secret packing work₀ tau next₀ done₀ work next done = p .tau - done
 
 loop-holds : tie.Need-loop-holds Inv-loop μ-loop
-unfolding repeated
-loop-holds c = (omega arith, refl, kept-none _ _, λ signer msg h k. absorbing-none _)
+loop-holds c = (omega arith, refl, kept-none _ _, answering-none _ _ _ _ _ _)
 
 add-loop : tie.Need-add-loop Inv-loop μ-loop
 add-loop c = let i = c .loop .inv .0 in let b = c .before .before .before .before .before .pre .0 .repetitions in omega arith
@@ -54,12 +46,11 @@ loop-again c =
     let l = c .before .before .before .before .before .loop in
     let i = l .inv in
     let t = c .before .before .before .before .loop-test .taken in
-    let u = c .before .before .answer-pair in
-    let w = i .1 ∙ s .pre .5 in (
+    let u = c .before .before .answer-pair in (
       omega arith,
       u .kept .1 .1 .1 .1 .1 .1 .0 ∙ i .1,
       kept-more _ _ _ _ (i .2) (u .ensures .1),
-      λ signer msg h k. answering-two (s .args .p) (s .pre .0) signer msg (s .args .salt .now) (s .args .secret .now) (s .args .packing .now) (l .work) (s .pre .2) w (challenged-kept _ signer msg _ _ _ _ _ (i .2) h) (roots-kept _ signer _ _ (i .2) k) (l .done) _ _ _ t (i .3 signer msg h k) (u .ensures .0),
+      answering-two (s .args .p) (s .args .salt .now) (s .args .secret .now) (s .args .packing .now) (s .args .work .now) (l .work) (i .2) (l .done) _ _ _ (i .3) (u .ensures .0),
     )
 
 add-answer-turn : tie.Need-add-answer-turn Inv-loop μ-loop
@@ -83,10 +74,9 @@ returns c =
     let t = c .before .before .before .before .if1 .taken in
     let b = c .before .before .before .before .before .loop-test .left in
     let e : l .done + 1 ≡ s .args .p .tau = omega arith in
-    let u = c .before .before .answer-turn in
-    let w = i .1 ∙ s .pre .5 in (
-      λ signer msg h k. answered-all _ signer msg _ _ _ e (s .pre .0 .«repeated»)
-          (answering-more (s .args .p) (s .pre .0) signer msg (s .args .salt .now) (s .args .secret .now) (s .args .packing .now) (l .work) (s .pre .2) w (challenged-kept _ signer msg _ _ _ _ _ (i .2) h) (roots-kept _ signer _ _ (i .2) k) (l .done) _ _ _ t (i .3 signer msg h k) (u .ensures .0)),
+    let u = c .before .before .answer-turn in (
+      answered-all _ _ _ _ _ _ _ _ e (s .pre .0 .«repeated»)
+          (answering-more (s .args .p) (s .args .salt .now) (s .args .secret .now) (s .args .packing .now) (s .args .work .now) (l .work) (i .2) (l .done) _ _ _ (i .3) (u .ensures .0)),
       kept-more _ _ _ _ (i .2) (u .ensures .1),
     )
 
@@ -101,7 +91,7 @@ returns-2 c =
     let b = i .0 in
     let t = c .if1 .left in
     let e : l .done ≡ s .args .p .tau = omega arith in
-    (λ signer msg h k. answered-all _ signer msg _ _ _ e (s .pre .0 .«repeated») (i .3 signer msg h k), i .2)
+    (answered-all _ _ _ _ _ _ _ _ e (s .pre .0 .«repeated») (i .3), i .2)
 
 pub answer-pass-spec : {M : Type 1} → statement M
 answer-pass-spec =

@@ -49,6 +49,7 @@ same-length-3 c = search needs
 
 returns-2 : tie.Need-returns-2
 returns-2 c =
+    let room = c .before .before .before .before .before .before .before .before .before .before .before .before .before .before .before .before .before .before .before .pre in
     let a = c .before .before .before .before .before .before .before .before .before .before .before .before .before .before .before .before .before .before .before .args in
     let e = a .input .now in
     let r = c .before .before .before .before .before .before .before .before .before .before .before .before .before .before .before .read in
@@ -58,7 +59,7 @@ returns-2 c =
     let k = key-told (lent (a .input)) (lent (c .before .before .before .before .before .before .before .before .before .before .before .public-key-of .result)) (c .before .before .before .before .before .before .before .before .before .before .before .public-key-of .ensures) in
     let m = message-told (lent (a .input)) (lent (c .before .before .before .before .before .before .before .before .before .before .message-of .result)) (c .before .before .before .before .before .before .before .before .before .before .message-of .ensures) in
     let s = signature-told (lent (a .input)) (lent (c .before .before .before .before .before .before .before .before .before .signature-of .result)) (c .before .before .before .before .before .before .before .before .before .signature-of .ensures) in
-    report-refused e (a .line .now) (a .work .now) z _ _ _ _ _ (c .before .before .before .before .before .before .before .verify .result) set k m s (c .before .before .before .before .before .before .before .verify .ensures) _ _ (c .before .before .before .before .if2 .taken) (c .before .before .refused2 .ensures .0) (c .before .before .refused2 .ensures .1)
+    report-refused e (a .line .now) (a .work .now) room z _ _ _ _ _ (c .before .before .before .before .before .before .before .verify .result) set k m s (c .before .before .before .before .before .before .before .verify .ensures) _ _ (c .before .before .before .before .if2 .taken) (c .before .before .refused2 .ensures .0) (c .before .before .refused2 .ensures .1)
 
 genuine-requires : tie.Need-genuine-requires
 genuine-requires c κs =
@@ -81,6 +82,7 @@ same-length-5 c = search needs
 
 returns-3 : tie.Need-returns-3
 returns-3 c =
+    let room = c .before .before .before .before .before .before .before .before .before .before .before .before .before .before .before .before .before .before .before .pre in
     let a = c .before .before .before .before .before .before .before .before .before .before .before .before .before .before .before .before .before .before .before .args in
     let e = a .input .now in
     let r = c .before .before .before .before .before .before .before .before .before .before .before .before .before .before .before .read in
@@ -90,7 +92,7 @@ returns-3 c =
     let k = key-told (lent (a .input)) (lent (c .before .before .before .before .before .before .before .before .before .before .before .public-key-of .result)) (c .before .before .before .before .before .before .before .before .before .before .before .public-key-of .ensures) in
     let m = message-told (lent (a .input)) (lent (c .before .before .before .before .before .before .before .before .before .before .message-of .result)) (c .before .before .before .before .before .before .before .before .before .before .message-of .ensures) in
     let s = signature-told (lent (a .input)) (lent (c .before .before .before .before .before .before .before .before .before .signature-of .result)) (c .before .before .before .before .before .before .before .before .before .signature-of .ensures) in
-    report-genuine e (a .line .now) (a .work .now) z _ _ _ _ _ (c .before .before .before .before .before .before .before .verify .result) set k m s (c .before .before .before .before .before .before .before .verify .ensures) _ _ _ h (c .before .before .before .before .if2 .left) (c .before .before .genuine .ensures .0) (c .before .before .genuine .ensures .1)
+    report-genuine e (a .line .now) (a .work .now) room z _ _ _ _ _ (c .before .before .before .before .before .before .before .verify .result) set k m s (c .before .before .before .before .before .before .before .verify .ensures) _ _ _ h (c .before .before .before .before .if2 .left) (c .before .before .genuine .ensures .0) (c .before .before .genuine .ensures .1)
 
 pub line-for-spec : {M : Type 1} → statement M
 line-for-spec =

@@ -1,6 +1,7 @@
 -- `signing::answer` meets its contract: the challenges are written behind the roots, and the pass keeps both. Assumes nothing.
 use native.Mathlib.Omega.{arith}
 use borrow.Author.Needs.{needs}
+use Rattle.replies.proofs.Answering.{answers-all-signed}
 use Rattle.signing.proofs.Sizes.{challenges-within}
 use Rattle.signing.proofs.Answering.{challenged-work, answered}
 use Rattle.signing.proofs.answer.Statement.{statement}
@@ -70,7 +71,9 @@ returns c =
     let pre = z .pre in
     λ signer msg held same corrected.
     answered (a .p) (pre .0) signer msg (a .salt .now) (a .secret .now) (a .packing .now) (a .work .now) (a .h1 .now) _ _ _ _ _ _ _ _ _
-    (m .ensures .challenges) (m .ensures .end) (pre .6) (t .ensures) (s .ensures) (p .ensures .0) (p .ensures .1) (d .ensures) (pre .4) (q .ensures .0) held same corrected
+    (m .ensures .challenges) (m .ensures .end) (pre .6) (t .ensures) (s .ensures)
+    (answers-all-signed (a .p) (pre .0) (a .salt .now) (a .secret .now) (a .packing .now) _ (pre .1) (challenged-work (a .p) (pre .0) (a .work .now) (a .h1 .now) _ _ _ (m .ensures .challenges) (m .ensures .end) (pre .6) (t .ensures)) _ _ (p .ensures .0))
+    (p .ensures .1) (d .ensures) (pre .4) (q .ensures .0) held same corrected
 
 pub answer-spec : {M : Type 1} → statement M
 answer-spec =

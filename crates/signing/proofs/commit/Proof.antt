@@ -1,6 +1,7 @@
 -- `signing::commit` meets its contract: both hashes, from what the passes promise. Assumes nothing.
 use mathlib.Core.Path.{_∙_}
 use borrow.Author.Needs.{needs}
+use Rattle.passes.proofs.Committing.{absorbed-signed, corrections-signed, kept-planted}
 use Rattle.signing.proofs.Answering.{committed}
 use Rattle.signing.proofs.commit.Statement.{statement}
 use Rattle.signing.proofs.commit.Tie as tie
@@ -52,7 +53,11 @@ returns c =
     let a = z .args in
     λ signer held.
     committed (a .p) signer (a .message .now) (a .salt .now) (a .secret .now) _ (a .work .now) _ _ _ _ _ _ _ _ _
-    (z .pre .4) (s .ensures) (b .ensures) (p .0) (p .1 .0) (p .1 .1) (d .ensures) (q .ensures .0) (r .ensures) held
+    (z .pre .4) (s .ensures) (b .ensures)
+    (absorbed-signed (a .p) (a .salt .now) (a .secret .now) _ _ _ (p .0))
+    (corrections-signed (a .p) (z .pre .0) (a .salt .now) (a .secret .now) (a .work .now) (a .packing .now) _ (z .pre .1) (z .pre .2) (z .pre .7) (z .pre .6) (p .1 .0))
+    (kept-planted (a .p) (z .pre .0) (a .salt .now) (a .work .now) _ (z .pre .7) (p .1 .1))
+    (d .ensures) (q .ensures .0) (r .ensures) held
 
 pub commit-spec : {M : Type 1} → statement M
 commit-spec =

@@ -1,14 +1,12 @@
--- `test_desk::all` is safe and ends: a case keeps the length of each part. The measure is what is left of the rows of all sets.
+-- `test_desk::all` is safe and ends: i stays within the rows. The measure is what is left of the rows of all sets.
 -- Assumes nothing.
-use mathlib.Core.Path.{_≡_}
 use Prim.Native.Nat.{_≤_, _-_}
-use lib.ListN.{length}
 use borrow.Author.Needs.{needs}
 use Rattle.test_desk.proofs.all.Statement.{statement}
 use Rattle.test_desk.proofs.all.Tie as tie
 
 abbrev Inv-loop : tie.InvT-loop
-Inv-loop store₀ signature₀ i₀ store signature i = (i ≤ 658) × (length store ≡ 33207) × (length signature ≡ 27349)
+Inv-loop store₀ signature₀ i₀ store signature i = i ≤ 658
 
 abbrev μ-loop : tie.MeasureT-loop
 μ-loop store₀ signature₀ i₀ store signature i = 658 - i
@@ -28,12 +26,6 @@ loop-less c = search needs
 loop-again : tie.Need-loop-again Inv-loop μ-loop
 loop-again c = search needs
 
-same-length : tie.Need-same-length Inv-loop μ-loop
-same-length c = search needs
-
-same-length-2 : tie.Need-same-length-2 Inv-loop μ-loop
-same-length-2 c = search needs
-
 returns : tie.Need-returns Inv-loop μ-loop
 returns c = search needs
 
@@ -48,6 +40,4 @@ all-spec =
     add-i
     loop-less
     loop-again
-    same-length
-    same-length-2
     returns)

@@ -1,14 +1,12 @@
--- `test_parties::verifiers` is safe and ends: i counts the cases, and the parts keep their lengths.
+-- `test_parties::verifiers` is safe and ends: i counts the cases.
 -- Assumes nothing.
-use mathlib.Core.Path.{_≡_}
 use Prim.Native.Nat.{_≤_, _-_}
-use lib.ListN.{length}
 use borrow.Author.Needs.{needs}
 use Rattle.test_parties.proofs.verifiers.Statement.{statement}
 use Rattle.test_parties.proofs.verifiers.Tie as tie
 
 abbrev Inv-loop : tie.InvT-loop
-Inv-loop set salt h1 values₀ work₀ i₀ values work i = (i ≤ 5) × (length values ≡ 602) × (length work ≡ 60768)
+Inv-loop set salt h1 values₀ work₀ i₀ values work i = i ≤ 5
 
 abbrev μ-loop : tie.MeasureT-loop
 μ-loop set salt h1 values₀ work₀ i₀ values work i = 5 - i
@@ -31,12 +29,6 @@ loop-less c = search needs
 loop-again : tie.Need-loop-again Inv-loop μ-loop
 loop-again c = search needs
 
-same-length : tie.Need-same-length Inv-loop μ-loop
-same-length c = search needs
-
-same-length-2 : tie.Need-same-length-2 Inv-loop μ-loop
-same-length-2 c = search needs
-
 returns : tie.Need-returns Inv-loop μ-loop
 returns c = search needs
 
@@ -52,6 +44,4 @@ verifiers-spec =
     add-i
     loop-less
     loop-again
-    same-length
-    same-length-2
     returns)

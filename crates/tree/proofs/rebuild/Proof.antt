@@ -11,7 +11,7 @@ use lib.ListN.{length, replicate}
 use Rattle.memory.specs.Sections.{pieces}
 use Rattle.memory.proofs.Lists.{room}
 use Rattle.tree.specs.Tree.{children}
-use Rattle.tree.specs.Coded.{codedAt}
+use Rattle.tree.proofs.Coded.{codedAt}
 use Rattle.tree.proofs.Laying.{level-room, pow-small, seed-room}
 use borrow.Author.Needs.{needs}
 use Rattle.tree.proofs.rebuild.Statement.{statement}

@@ -6,7 +6,7 @@ use native.Mathlib.Omega.{arith}
 use lib.ListN.{length}
 use Rattle.memory.specs.Lists.{put}
 use Rattle.tree.specs.Tree.{children}
-use Rattle.tree.specs.Coded.{spread}
+use Rattle.tree.specs.Spread.{spread}
 use Rattle.tree.proofs.Laying.{spread-none, spread-turn, parent-room, children-room}
 use borrow.Author.Needs.{needs}
 use Rattle.tree.proofs.split.Statement.{statement}

@@ -9,9 +9,9 @@ use Rattle.biscuit.proofs.Room.{mapped}
 use Rattle.sponge.specs.Steps.{absorbed}
 use Rattle.turns.proofs.Sizes.{head-fits, salt-short}
 use Rattle.turns.proofs.Reading.{values-cut}
-use Rattle.turns.proofs.Turning.{answered-as, salt-is, rooms-length, rooms-circuit, rooms-leaves, rooms-back-circuit, rooms-back-rest}
+use Rattle.turns.proofs.Turning.{answered-as, salt-is, rooms-length, rooms-circuit, rooms-leaves, rooms-back-front, rooms-back-held, rooms-back-rest}
 use Rattle.reps.proofs.Laws.{rep-sized, rep-some}
-use Rattle.turns.proofs.Answering.{rep-variables, rep-equations, rep-values, rep-circuit, rep-leaves, rep-rooms, rep-holds}
+use Rattle.turns.proofs.Answering.{rep-variables, rep-equations, rep-values, rep-circuit, rep-leaves, rep-front, rep-rooms, rep-holds}
 use borrow.Author.Needs.{needs}
 use Rattle.turns.proofs.absorb_second.Statement.{statement}
 use Rattle.turns.proofs.absorb_second.Tie as tie
@@ -83,10 +83,11 @@ returns c =
           ∙ ap (absorbed (s .args .hash))
           (answered-as p fit key x (s .pre .3) (s .args .e) (s .pre .1) (s .pre .2) _ (s .args .party) _ (s .args .values .now) _ r is (salt-is p x)
           (rooms-leaves p w (s .pre .6) _ l _ _ (rep-circuit p fit _ _ _ r) (rep-leaves p fit _ _ _ r) ∙ leaves) (values-cut p key x (s .args .e) (s .pre .1) (s .pre .2) (s .args .values .now) (s .pre .4) v)),
-      (
-        rooms-back-circuit p w (s .pre .6) _ l (a .last .1 .1 .1 .1 .0) (a .kept .1 .1 .1 .1 .0) _ (rep-circuit p fit _ _ _ r) (a .ensures .1),
-        rooms-back-rest p w (s .pre .6) _ l (a .last .1 .1 .1 .1 .0) (a .kept .1 .1 .1 .1 .0),
-      ),
+      record {
+        front = rooms-back-front p w (s .pre .6) _ l (a .last .1 .1 .1 .1 .0) (a .kept .1 .1 .1 .1 .0) _ (rep-front p fit _ _ _ r) (a .ensures .1 .0);
+        room = rooms-back-held p w (s .pre .6) _ l (a .last .1 .1 .1 .1 .0) (a .kept .1 .1 .1 .1 .0) _ _ _ _ _ r (salt-is p x) (rep-circuit p fit _ _ _ r) (rep-leaves p fit _ _ _ r) (a .ensures .1 .1);
+        rest = rooms-back-rest p w (s .pre .6) _ l (a .last .1 .1 .1 .1 .0) (a .kept .1 .1 .1 .1 .0);
+      },
     )
 
 pub absorb-second-spec : {M : Type 1} → statement M

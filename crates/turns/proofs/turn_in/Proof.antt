@@ -11,7 +11,7 @@ use Rattle.biscuit.specs.Keys.{publicKeyOf}
 use Rattle.turns.specs.Turns.{challengesPart}
 use Rattle.biscuit.proofs.Room.{hidden-from-one, hidden-within}
 use Rattle.turns.proofs.Reading.{read-elements-small, values-are}
-use Rattle.turns.proofs.Turning.{length-of-leaves, put-circuit, put-leaves, put-rest}
+use Rattle.turns.proofs.Turning.{length-of-leaves, put-circuit, put-leaves, answered-same}
 use borrow.Author.Needs.{needs}
 use Rattle.turns.proofs.turn_in.Statement.{statement}
 use Rattle.turns.proofs.turn_in.Tie as tie
@@ -58,10 +58,9 @@ returns c =
     let w = c .before .before .before .before .before .before .before .rebuild .ensures key is in
     let z = length-of-leaves p (s .pre .0) key x (s .pre .4) (s .args .e) (s .pre .1) (s .pre .2) in
     let end = c .before .before .absorb .ensures in
-    let circuit = put-circuit p (s .args .work .now) _ _ (s .pre .7) z w in
-    let rest = put-rest p (s .args .work .now) _ _ (s .pre .7) z w in (
+    let circuit = put-circuit p (s .args .work .now) _ _ (s .pre .7) z w in (
       end .0 key is v (put-leaves p (s .args .work .now) _ _ (s .pre .7) z w) (subst (HoldsCircuit (p .n) (p .m) (f p key)) (sym circuit) (all .circuit)),
-      (end .1 .0 ∙ circuit, end .1 .1 ∙ rest),
+      answered-same is v w (end .1),
     )
 
 pub turn-in-spec : {M : Type 1} → statement M

@@ -3,7 +3,7 @@
 use Prim.Native.Nat.{_/_}
 use native.Mathlib.Omega.{arith}
 use borrow.Author.Needs.{needs}
-use Rattle.vectors.proofs.Elements.{low-put, high-put}
+use Rattle.vectors.proofs.Laying.{low-put, high-put}
 use Rattle.vectors.proofs.put_element.Statement.{statement}
 use Rattle.vectors.proofs.put_element.Tie as tie
 

@@ -4,7 +4,7 @@ use Prim.Native.Nat.{_-_, _≤_}
 use native.Mathlib.Omega.{arith}
 use lib.ListN.{length}
 use borrow.Author.Needs.{needs}
-use Rattle.vectors.proofs.Elements.{Laid, laid-none, laid-more, laid-all}
+use Rattle.vectors.proofs.Laying.{Laid, laid-none, laid-more, laid-all}
 use Rattle.vectors.proofs.write_elements.Statement.{statement}
 use Rattle.vectors.proofs.write_elements.Tie as tie
 

@@ -8,6 +8,7 @@ use Rattle.biscuit.specs.Keys.{publicKeyOf}
 use Rattle.biscuit.specs.Signature.{extracted}
 use Rattle.biscuit.specs.Room.{roomEnd}
 use Rattle.turns.specs.Turns.{Expanded}
+use Rattle.turns.proofs.Turning.{length-of-leaves, put-circuit, put-rest}
 use Rattle.verifying.specs.Hashed.{pairCount, Hashed}
 use Rattle.verifying.proofs.Counting.{pairs-within, pair-sixteen}
 use Rattle.verifying.proofs.Expanding.{still-expanded}
@@ -70,10 +71,14 @@ loop-again c =
     let i = l .inv in
     let h = c .before .before .before .before .loop-test in
     let t = c .before .before .turn-two in
+    let n = pairs-within p in
+    let k = c .before .before .before .before .before .before .before .pair-count .ensures in
+    let enough = subst (λ (n : ℕ). roomEnd p ≤ n) (sym (i .1)) (s .pre .4) in
+    let z = length-of-leaves p (s .pre .0) key (s .args .signature .now) (s .pre .2) (2 * l .i + 1 + 1) (omega arith) (omega arith) in
     let q : 2 * l .i + 1 + 1 ≡ 2 * (l .i + 1) = omega arith in (
       omega arith,
       t .kept .1 .1 .1 .1 .1 .1 .0 ∙ i .1,
-      still-expanded p key σ (s .args .parties .now) (l .work) _ (i .2) (t .ensures .1 .0) (t .ensures .1 .1),
+      still-expanded p key σ (s .args .parties .now) (l .work) _ (i .2) (put-circuit p (l .work) _ _ enough z (t .ensures .1)) (put-rest p (l .work) _ _ enough z (t .ensures .1)),
       subst (λ (n : ℕ). Hashed p key σ (s .args .message .now) n (t .result)) q (hashed-two p key σ (s .args .message .now) (2 * l .i) (l .both) (t .result) (i .3) (t .ensures .0)),
     )
 

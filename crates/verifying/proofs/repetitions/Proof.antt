@@ -1,13 +1,14 @@
 -- `verifying::repetitions` meets its contract. The invariant: both hashes have absorbed the first e repetitions, and what was expanded still stands in work.
 -- Assumes nothing.
 use mathlib.Core.Path.{_≡_, refl, sym, _∙_, subst}
-use Prim.Native.Nat.{ℕ, _-_, _*_, _≤_}
+use Prim.Native.Nat.{ℕ, _+_, _-_, _*_, _≤_}
 use native.Mathlib.Omega.{arith}
 use lib.ListN.{length}
 use Rattle.biscuit.specs.Keys.{publicKeyOf}
 use Rattle.biscuit.specs.Signature.{extracted}
 use Rattle.biscuit.specs.Room.{roomEnd}
 use Rattle.turns.specs.Turns.{Expanded}
+use Rattle.turns.proofs.Turning.{left-circuit, left-rest}
 use Rattle.verifying.specs.Hashed.{Hashed}
 use Rattle.verifying.proofs.Counting.{pairs-within}
 use Rattle.verifying.proofs.Expanding.{still-expanded}
@@ -64,12 +65,21 @@ loop-again : tie.Need-loop-again Inv-loop μ-loop
 loop-again c =
     let s = c .before .before .before .before .before .before .before .before .before .before .before .before .before .before .before .before in
     let p = s .args .p in
+    let x = s .args .signature .now in
+    let key = publicKeyOf p (s .args .pk .now) in
     let l = c .before .before .before .before .before .loop in
     let i = l .inv in
     let a = i .0 in
     let h = c .before .before .before .before .loop-test in
     let t = c .before .before .turn in
-    (omega arith, t .kept .1 .1 .1 .1 .1 .1 .0 ∙ i .1, still-expanded p (publicKeyOf p (s .args .pk .now)) (extracted p (s .args .signature .now)) (s .args .parties .now) (l .work) _ (i .2) (t .ensures .1 .0) (t .ensures .1 .1), hashed-more p (publicKeyOf p (s .args .pk .now)) (extracted p (s .args .signature .now)) (s .args .message .now) (l .e) (l .both) _ (i .3) (t .ensures .0))
+    let enough = subst (λ (n : ℕ). roomEnd p ≤ n) (sym (i .1 ∙ c .before .before .before .before .before .before .before .before .before .pairs .kept .1 .1 .1 .1 .1 .0)) (s .pre .4) in
+    let circuit = left-circuit p (s .pre .0) key x (s .pre .2) (l .e + 1) (omega arith) (omega arith) (l .work) _ enough (t .ensures .1) in
+    let rest = left-rest p (s .pre .0) key x (s .pre .2) (l .e + 1) (omega arith) (omega arith) (l .work) _ enough (t .ensures .1) in (
+      omega arith,
+      t .kept .1 .1 .1 .1 .1 .1 .0 ∙ i .1,
+      still-expanded p key (extracted p x) (s .args .parties .now) (l .work) _ (i .2) circuit rest,
+      hashed-more p key (extracted p x) (s .args .message .now) (l .e) (l .both) _ (i .3) (t .ensures .0),
+    )
 
 same-length : tie.Need-same-length Inv-loop μ-loop
 same-length c = c .before .loop .inv .1 ∙ c .before .before .before .before .before .pairs .kept .1 .1 .1 .1 .1 .0

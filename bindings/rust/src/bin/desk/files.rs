@@ -28,7 +28,7 @@ pub fn shown<Word: AsRef<OsStr> + ?Sized>(word: &Word) -> String {
     line
 }
 
-/// Whether a letter has no shape of its own: the marks, overrides and isolates that turn the order of a line, the ends of a line and of a paragraph, joiners and spaces without width,
+/// Whether a letter is one of these: the marks, overrides and isolates that turn the order of a line, the ends of a line and of a paragraph, joiners and spaces without width,
 /// the soft hyphen, annotations and tags. ./check-clips has the same list in bytes.
 fn is_unseen(letter: char) -> bool {
     matches!(

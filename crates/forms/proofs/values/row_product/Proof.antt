@@ -6,20 +6,20 @@ use native.Mathlib.Omega.{arith}
 use lib.ListN.{length}
 use Rattle.field.specs.Packing.{nib}
 use Rattle.field.specs.Vectors.{_!_}
-use Rattle.field.specs.Sums.{sumOf}
+use Rattle.field.specs.Sums.{dotOf}
 use Rattle.forms.proofs.Evaluated.{sum-more, row-dot}
 use borrow.Author.Needs.{needs}
 use Rattle.forms.proofs.values.row_product.Statement.{statement}
 use Rattle.forms.proofs.values.row_product.Tie as tie
 
 abbrev Inv-loop : tie.InvT-loop
-Inv-loop circuit row s products sum₀ i₀ sum i = (i ≤ length s) × (sum ≡ sumOf i (λ j. nib circuit (row * 2 + j)) (λ j. s ! j))
+Inv-loop circuit row s products sum₀ i₀ sum i = (i ≤ length s) × (sum ≡ dotOf i (λ j. nib circuit (row * 2 + j)) (λ j. s ! j))
 
 abbrev μ-loop : tie.MeasureT-loop
 μ-loop circuit row s products sum₀ i₀ sum i = length s - i
 
 loop-holds : tie.Need-loop-holds Inv-loop μ-loop
-unfolding sumOf
+unfolding dotOf
 loop-holds c = (omega arith, refl)
 
 mul-element : tie.Need-mul-element Inv-loop μ-loop
@@ -72,7 +72,7 @@ returns c =
     let a = c .before .before .before .before .args in
     let e : l .i ≡ length (a .s .now) = omega arith in
     l .inv .1
-    ∙ ap (λ (n : ℕ). sumOf n (λ j. nib (a .circuit .now) (a .row * 2 + j)) (λ j. a .s .now ! j)) e
+    ∙ ap (λ (n : ℕ). dotOf n (λ j. nib (a .circuit .now) (a .row * 2 + j)) (λ j. a .s .now ! j)) e
     ∙ sym (row-dot (a .circuit .now) (a .row) (length (a .s .now)) (a .s .now))
 
 pub row-product-spec : {M : Type 1} → statement M

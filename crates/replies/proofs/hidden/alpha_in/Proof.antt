@@ -29,9 +29,8 @@ same-length-3 c = c .before .before .before .before .before .before .before .alp
 returns : tie.Need-returns
 returns c =
     let s = c .before .before .before .before .before .before .before .before .before .before .before .before .before .before .before .before .before .before .before .before .before in
-    let h = s .pre in
     let a = c .before .before .before .before .before .before .before .alpha-leaf in
-    λ f held. placed-alpha (s .args .p) f (s .args .e) (s .args .i) _ _ _ _ _ _ _ (h .1) (h .2) (a .kept .1 .1 .1 .1 .1 .1 .0 ∙ h .8) (h .5) (c .before .before .before .before .before .before .before .before .before .before .before .before .read-values .ensures) (a .ensures f held) (c .before .before .write-alpha .ensures)
+    λ f held. placed-alpha (s .args .p) f (s .args .e) (s .args .i) _ _ _ _ _ _ _ (c .before .before .before .before .before .before .before .before .before .before .before .before .read-values .ensures) (a .ensures f held) (c .before .before .write-alpha .ensures)
 
 pub alpha-in-spec : {M : Type 1} → statement M
 alpha-in-spec =

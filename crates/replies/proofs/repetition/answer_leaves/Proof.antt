@@ -53,7 +53,7 @@ returns c =
     let r = c .before .before .before .before .before .rep-of .ensures in
     let a = c .before .before .answers in (
       answered-values (s .args .p) _ _ _ _ _ (s .args .work .now) _ _ (c .before .before .before .before .before .before .before .before .before .read-values .ensures) (absorbed-leaves (s .args .p) (s .args .e) f _ r (s .args .work .now) (h .8) _ _ _ _ _ (c .before .before .before .before .before .before .layout-of .ensures .roots) (a .ensures .0)),
-      rooms-kept (s .args .p) (s .args .e) f _ r (s .args .work .now) (h .8) _ _ (c .before .before .before .before .before .before .layout-of .ensures .roots) (a .kept .1 .1 .1 .1 .0) (a .ensures .1),
+      rooms-kept (s .args .p) (s .args .e) f _ r (s .args .work .now) (h .8) _ _ (c .before .before .before .before .before .before .layout-of .ensures .roots) (a .kept .1 .1 .1 .1 .0) (a .ensures .1 .0),
     )
 
 pub answer-leaves-spec : {M : Type 1} → statement M

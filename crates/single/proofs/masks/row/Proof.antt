@@ -4,7 +4,7 @@ use mathlib.Core.Path.{_≡_, _∙_, ap}
 use Prim.Native.Nat.{ℕ, _+_, _*_, _-_, _≤_}
 use native.Mathlib.Omega.{arith}
 use Rattle.field.specs.Packing.{nib}
-use Rattle.field.specs.Sums.{sumOf}
+use Rattle.field.specs.Sums.{dotOf}
 use Rattle.single.specs.Masks.{MasksOf}
 use Rattle.single.proofs.Weighing.{weighed, weighed-none, row-more, lanes-weighed}
 use borrow.Author.Needs.{needs}
@@ -13,7 +13,7 @@ use Rattle.single.proofs.masks.row.Tie as tie
 
 abbrev Inv-loop : tie.InvT-loop
 Inv-loop bytes at words masks a₀ b₀ c₀ d₀ w₀ a b c d w =
-    (w ≤ words) × ((s : ℕ → ℕ) → MasksOf s 8 masks → weighed a b c d ≡ sumOf (16 * w) (λ j. nib bytes (at * 2 + j)) s)
+    (w ≤ words) × ((s : ℕ → ℕ) → MasksOf s 8 masks → weighed a b c d ≡ dotOf (16 * w) (λ j. nib bytes (at * 2 + j)) s)
 
 abbrev μ-loop : tie.MeasureT-loop
 μ-loop bytes at words masks a₀ b₀ c₀ d₀ w₀ a b c d w = words - w
@@ -97,7 +97,7 @@ returns c = λ s h.
     let a = c .before .before .before .before .before .args in
     let e : l .w ≡ a .words = omega arith in
     lanes-weighed (l .a) (l .b) (l .c) (l .d) (c .weighted .result) (c .weighted .ensures) ∙ l .inv .1 s h
-    ∙ ap (λ (n : ℕ). sumOf (16 * n) (λ j. nib (a .bytes .now) (a .at * 2 + j)) s) e
+    ∙ ap (λ (n : ℕ). dotOf (16 * n) (λ j. nib (a .bytes .now) (a .at * 2 + j)) s) e
 
 pub row-spec : {M : Type 1} → statement M
 row-spec =
