@@ -5,8 +5,8 @@
  * What holds for every call:
  *   - A part is lent as a pointer and its number of bytes. An output or work must not overlap any other part that is lent to the
  *     same call; inputs may overlap. A part of 0 bytes may have any pointer, also NULL. Inputs are not changed.
- *   - The answer is a number of the table below. Where several refusals apply, the lowest number is given; a call tests only
- *     what it has. envelope_read alone has an order of its own.
+ *   - The answer of a call that gives a uint8_t is a number of the table below. Where several refusals apply, the lowest number is
+ *     given; a call tests only what it has. envelope_read alone has an order of its own.
  *   - Answers 1 to 7, 10 and 11 change nothing. After 0, 8 and 9 the first BISCUIT_WORK_SIZE bytes of work are zero and its
  *     later bytes are as they were. After 8 and 9 no output has changed. After 0 an output holds the result first, and its later
  *     bytes are as they were.
@@ -14,12 +14,14 @@
  *   - Nothing is allocated, nothing is kept from call to call, and no random number is drawn. Calls may run at the same time, each
  *     with its own work and outputs.
  *   - The stack that a call takes is at most 4 KB for biscuit_make_keys and biscuit_public_half, 72 KB for biscuit_sign and
- *     biscuit_verify, 1 KB for an envelope, as measured (docs/DECISIONS.md, "Stack"). What was on it is not all cleared.
+ *     biscuit_verify, 1 KB for an envelope, as measured on 64-bit Arm (docs/DECISIONS.md, "Stack"); bench/stack measures it on another
+ *     machine. What was on it is not all cleared.
  *   - The four high bits behind an odd last element of a key mean nothing (the last byte of public keys of sets 1, 2, 5 and 6, and
- *     of secret keys of sets 3 and 4): the library writes them as 0 and ignores them in a key that it is lent. A secret key's bytes
- *     go into its signatures as given, these bits included.
- * The promises are proved of the library's calls (crates/desk). Sizes and numbers in this file are held to the calls by tests/c/run,
- * its words to those of the Rust crate by bindings/rust/tests/desk.rs.
+ *     of secret keys of sets 3 and 4): the library writes them as 0 and ignores them in a key that it is lent. Salt and roots
+ *     of a signature are hashed from the secret key's bytes as given, these bits included, so two keys that differ in them alone give
+ *     two signatures.
+ * The promises are proved of the libraries' calls (crates/desk, crates/shake). Sizes and numbers in this file are held to the calls
+ * by tests/c/run, its words to those of the Rust crate by bindings/rust/tests/desk.rs.
  */
 #ifndef BISCUIT_H
 #define BISCUIT_H
@@ -267,7 +269,10 @@ struct biscuit_header envelope_header(const uint8_t *envelope, size_t envelope_s
 struct biscuit_places { size_t public_key, signature, message, end; };
 struct biscuit_places envelope_places(const uint8_t *envelope, size_t envelope_size);
 
-/* The parts of an envelope as parts of the caller's own bytes. On refusal each is the part of length 0 at its start. */
+/*
+ * The parts of an envelope as parts of the caller's own bytes. On refusal each is the part of length 0 at the start of the
+ * envelope, and set is 0.
+ */
 struct biscuit_parts {
     size_t set;
     const uint8_t *public_key, *signature, *message;

@@ -108,7 +108,7 @@ impl Desk {
     }
 
     /// Reads an envelope and verifies it under the key that it carries. Anybody can make a key and sign with it: whose key that is, the caller finds out with
-    /// [`Desk::verify`] under a key that it knows; bytes may differ in bits that mean nothing. Refuses what reading refuses, and 9.
+    /// [`Desk::verify`] under a key that it knows. Comparing the keys' bytes is not the same: they may differ in bits that mean nothing. Refuses what reading refuses, and 9.
     ///
     /// ```
     /// use biscuit::{Desk, Refusal, Set};

@@ -1,7 +1,8 @@
 //! A safe crate over the static library of the proved signing desk: Biscuit signatures and the clip envelope.
 //!
-//! A [`Set`] names the parameters. [`SecretKey`], [`PublicKey`] and [`Signature`] know their set and always have its length, so a key never has
-//! a wrong length; what can still be refused for a length are seeds and random bytes (2), a message (3), and a signature of another set (5). A [`Desk`] owns the
+//! A [`Set`] names the parameters. [`SecretKey`], [`PublicKey`] and [`Signature`] know their set and always have its length, so a call
+//! never meets a key of a wrong length. Bytes of a wrong length are refused where a key (4) or a signature (5) is made of them; the calls still refuse seeds and
+//! random bytes (2), a message (3), a signature of another set (5) and an envelope (10). A [`Desk`] owns the
 //! work buffer and makes the calls. A [`Refusal`] has the desk's number and words.
 //!
 //! ```

@@ -1,4 +1,4 @@
-//! The exported calls as they are: a set's number, slices, and the answer's number. Every number and every length is allowed;
+//! The exported calls of libdesk.a as they are: a set's number, slices, and the answer's number. Every number and every length is allowed;
 //! include/biscuit.h has the promise of each call. The rest of the crate is made of these.
 
 extern "C" {
