@@ -1,5 +1,8 @@
 // The answers of one repetition for N parties, or of two for sixteen parties each, sixteen in the lanes of a word, for signing and verifying alike: every α and then every v goes into the second hash.
 // No secret picks a branch or an address; the numbers of the repetition and of the hidden party are public.
+
+#![tactic(auto)]
+
 mod first;
 mod packed;
 mod second;

@@ -1,4 +1,7 @@
 // Exported calls for the benchmark: the values of the forms at sixteen shares, and the bytes of a tape. Sizes that do not fit change nothing.
+
+#![tactic(auto)]
+
 ghost use Rattle.std.specs.Prelude.{◌≡◌, List, ℕ, length};
 ghost use Rattle.field.specs.Vectors.{◌!◌};
 ghost use Rattle.lanes.specs.Lanes.{Holds};

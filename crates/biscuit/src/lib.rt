@@ -1,4 +1,7 @@
 // The map of the work buffer, and where the packing of a signature begins. What the calls promise stands in specs/, and why every signature is accepted in proofs/.
+
+#![tactic(auto)]
+
 ghost use Rattle.std.specs.Prelude.{◌≡◌};
 ghost use Rattle.biscuit.specs.Room.{Fits, LayoutOf, groups};
 ghost use Rattle.biscuit.specs.Signature.{packing_at};
@@ -9,7 +12,7 @@ use sets::{MOST_EQUATIONS, MOST_VARIABLES, Params};
 pub const VALUES: usize = MOST_VARIABLES + 4 * MOST_EQUATIONS;
 
 // Where the parts of work begin behind the circuit, and where the last ends.
-#[derive(Drop)]
+#[derive(Clone, Copy)]
 pub struct Layout {
     pub leaves: usize,
     pub room: usize,

@@ -1,5 +1,8 @@
 // The calls of the signing desk (document 01, "What the desk says"). Each takes any arguments: sizes are tested first, and a refusal changes nothing. What a call promises,
 // its number and every byte that it was lent, is one equation. Which number comes back is told to the caller; nothing else that is secret chooses a branch here.
+
+#![tactic(auto)]
+
 ghost use Rattle.std.specs.Prelude.{◌≡◌, ◌≤◌, length};
 ghost use Rattle.refusals.specs.Refusals.{work_length, cleared, make_keys_sizes, public_half_sizes, sign_sizes, verify_sizes};
 ghost use Rattle.biscuit.specs.Desk.{make_keys_ended, make_keys_outcome, public_half_ended, public_half_outcome, sign_ended, sign_outcome, verify_ended, verify_outcome};

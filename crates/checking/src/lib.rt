@@ -1,5 +1,8 @@
 // What the clip program does with an open file: it reads one envelope, at most 65,536 bytes of it, and prints one line. What the line says is decided and promised in crate
 // `report`; no contract can say what is read from a file or written to one.
+
+#![tactic(auto)]
+
 ghost use Rattle.std.specs.Prelude.{◌≡◌, length};
 ghost use Rattle.report.specs.Report.{input_limit};
 

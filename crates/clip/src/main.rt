@@ -1,4 +1,7 @@
 // The clip program: checks the clip on standard input, and prints `genuine S L` or `refused R`.
+
+#![tactic(auto)]
+
 use libc::STDIN_FILENO;
 
 fn main() {

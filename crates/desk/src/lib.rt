@@ -1,4 +1,7 @@
 // The calls of the signing desk for programs in C: each slice is a pointer and a length, the answer a number of document 01's table. Nothing is decided here.
+
+#![tactic(auto)]
+
 mod clips;
 
 ghost use Rattle.std.specs.Prelude.{◌≡◌};

@@ -15,7 +15,7 @@ pub fn header_bytes(h: Header) -> [u8; 3]
 }
 
 // The header that three bytes hold.
-pub fn header_of_lem(first: u8, second: u8, third: u8) -> Header
+pub fn header_of(first: u8, second: u8, third: u8) -> Header
     ensures { result ≡ header_of (first ∷ second ∷ third ∷ []) }
 {
     Header {

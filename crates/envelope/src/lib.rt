@@ -1,5 +1,8 @@
 // The clip envelope (document 01, "The clip envelope"): a header of three bytes, then public key, signature and message, and nothing after. Writing and reading
 // take any arguments: what is wrong is refused by its number, and a refusal changes nothing. Nothing here knows what a key or a signature means beyond its size.
+
+#![tactic(auto)]
+
 mod fields;
 
 ghost use Rattle.std.specs.Prelude.{◌≡◌, length, ◌≤◌};
@@ -8,7 +11,7 @@ ghost use Rattle.refusals.specs.Refusals.{message_limit};
 ghost use Rattle.envelope.specs.Envelope.{the_version, header, envelope_of, write_sizes, write_ended, write_outcome, header_number, read_outcome, places_of, lent, key_in, signature_in, message_in};
 ghost use Rattle.envelope.specs.Envelope.{placed as Envelope·placed};
 
-use fields::{header_bytes, header_of_lem};
+use fields::{header_bytes, header_of};
 use refusals::{
     DONE, ENVELOPE_LENGTH_WRONG, ENVELOPE_VERSION_WRONG, KEY_LENGTH_WRONG, MESSAGE_TOO_LONG,
     NO_SUCH_SET, OUTPUT_TOO_SHORT, SIGNATURE_LENGTH_WRONG,
@@ -16,7 +19,7 @@ use refusals::{
 
 // The header of an envelope: its version, the number of its set and the length of its message.
 #[repr(C)]
-#[derive(Drop)]
+#[derive(Clone, Copy)]
 pub struct Header {
     pub version: usize,
     pub set: usize,
@@ -30,7 +33,7 @@ const VERSION: usize = 1;
 const HEADER: usize = 3;
 
 // What reading says: the number of document 01's table, and the header, which is all 0 on refusal.
-#[derive(Drop)]
+#[derive(Clone, Copy)]
 pub struct Reading {
     pub number: u8,
     pub header: Header,
@@ -38,7 +41,7 @@ pub struct Reading {
 
 // Where the parts of an envelope begin, and where the last ends. All are 0 on refusal.
 #[repr(C)]
-#[derive(Drop)]
+#[derive(Clone, Copy)]
 pub struct Places {
     pub key: usize,
     pub signature: usize,
@@ -130,7 +133,7 @@ pub fn read(envelope: &[u8]) -> Reading
     if envelope.len() < HEADER {
         return refused(ENVELOPE_LENGTH_WRONG);
     }
-    let h = header_of_lem(envelope[0], envelope[1], envelope[2]);
+    let h = header_of(envelope[0], envelope[1], envelope[2]);
     let number = header_number(h, envelope.len());
     if number != DONE {
         return refused(number);

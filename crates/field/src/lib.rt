@@ -1,6 +1,9 @@
 // Numbers 0 to 15 as elements of the field of 16: products from a table of all 256 pairs, and elements packed two to a byte.
 // Every argument is taken: an element counts by its low four bits, and bytes past the end of a list count as 0.
 // No element chooses a branch. The product alone reads at a place that its operands choose, within one table of 256 bytes.
+
+#![tactic(auto)]
+
 mod table;
 
 ghost use Rattle.std.specs.Prelude.{◌≡◌, length, get_or, ◌*◌, ◌<◌, min};

@@ -1,6 +1,9 @@
 // The system of equations f = A0 + A1·A2: bytes of a tape, and the values of the forms at a secret.
 // A circuit lies in lent bytes packed as it is expanded: tables A1, A2, A0, and of each all constants and then the rows.
 // In `eval_circuit` the secret picks places in the table of products, and nothing else.
+
+#![tactic(auto)]
+
 mod values;
 
 ghost use Rattle.std.specs.Prelude.{◌≡◌, ◌≤◌, length};

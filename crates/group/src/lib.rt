@@ -1,5 +1,8 @@
 // Sixteen parties of one repetition, each in its lane of words: their tapes, their shares with the corrections, and from these α, y and z·ε + c.
 // No secret picks a branch or an address; the numbers of the repetition, of the group and of the hidden party are public.
+
+#![tactic(auto)]
+
 ghost use Rattle.std.specs.Prelude.{◌≡◌, List, ℕ, suc, ◌+◌, ◌*◌, ◌≤◌, ◌<◌, length};
 ghost use Rattle.memory.specs.Lists.{put};
 ghost use Rattle.field.specs.Packing.{Elements};
@@ -12,7 +15,7 @@ ghost use Rattle.parties.specs.Repetition.{tape_length};
 ghost use Rattle.group.specs.Shares.{Sized, values_length, delta_s, delta_c, tapes_of, HoldsTapes, TapeStored, HoldsShares, share_at, HoldsParts, HoldsAnswers, AlphaWords, RestWords};
 
 // A repetition: S bytes to a seed, n variables, m equations, its number e, the hidden party or 0, and how many groups of sixteen parties it has.
-#[derive(Drop)]
+#[derive(Clone, Copy)]
 pub struct Rep {
     pub s: usize,
     pub n: usize,

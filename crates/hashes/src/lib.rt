@@ -1,5 +1,8 @@
 // Who hashes what: one function for each use of SHAKE256 that section 4.4 of the submission names. A use begins with a fixed byte of its own, written
 // ahead of its fields. Nothing here branches on a byte or reads at a place that a byte gives: the lengths and the numbers alone are looked at.
+
+#![tactic(auto)]
+
 ghost use Rattle.std.specs.Prelude.{◌≡◌, ◌∷◌, ◌++◌, ◌+◌, ◌/◌, ◌%◌, ◌≤◌, length, drop};
 ghost use Rattle.memory.specs.Lists.{put};
 ghost use Rattle.sponge.specs.Sponge.{shake256};

@@ -1,6 +1,9 @@
 // The permutation Keccak-f[1600] of FIPS 202, section 3, on the 25 lanes of a state array: Lane(x, y) stands at place 5y + x.
 // Between the rounds six lanes are kept turned over, which spares χ all but five of its 25 complements. Each step of a round is a function.
 // Nothing here branches on a lane or reads at a place that a lane gives.
+
+#![tactic(auto)]
+
 mod table;
 
 ghost use Rattle.std.specs.Prelude.{◌≡◌};

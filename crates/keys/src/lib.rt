@@ -1,5 +1,8 @@
 // Keys: made from two seeds (algorithm 11 of the submission), read from their bytes, held to their own circuit, and the public half of a secret key.
 // No element of a secret chooses a branch. The product alone reads its table at a place that its operands give; whether a key is consistent is told, and nothing else of it.
+
+#![tactic(auto)]
+
 ghost use Rattle.std.specs.Prelude.{◌≡◌, ◌&&◌, cond, ◌++◌, ◌+◌, ◌≤◌, length, take, drop};
 ghost use Rattle.memory.specs.Lists.{same};
 ghost use Rattle.field.specs.Packing.{pack, packed_length};

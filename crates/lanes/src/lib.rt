@@ -1,5 +1,8 @@
 // Sixteen elements of the field of 16 in the sixteen four-bit lanes of a u64: products, and the eight bytes of a word.
 // The sum of two words is their exclusive or. No element chooses a branch or an address.
+
+#![tactic(auto)]
+
 ghost use Rattle.std.specs.Prelude.{◌≡◌, ◌+◌, ◌≤◌, ◌<◌, length};
 ghost use Rattle.memory.specs.Lists.{over, put};
 ghost use Rattle.lanes.specs.Lanes.{Times, Multiples, WordAt, word_bytes};

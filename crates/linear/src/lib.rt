@@ -1,5 +1,8 @@
 // The linear parts of the forms of a circuit at the shares of sixteen parties, which stand in the lanes of words: for one vector of words, and for two at once.
 // The circuit lies in lent bytes as crate `forms` says. No share picks a branch or an address.
+
+#![tactic(auto)]
+
 mod rows;
 mod two;
 mod two_sums;

@@ -1,5 +1,8 @@
 // What the test programs print with, and how they make their inputs: a line names a case and has its bytes in hexadecimal.
 // The independent program prints the same lines from the same rules. What is printed cannot be promised: the kit says nothing of what a program has written.
+
+#![tactic(auto)]
+
 ghost use Rattle.std.specs.Prelude.{◌≡◌, ◌+◌, ◌*◌, ◌%◌, ◌<◌, length, get_or};
 ghost use Rattle.memory.specs.Lists.{table};
 ghost use Rattle.field.specs.Packing.{Elements};

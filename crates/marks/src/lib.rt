@@ -1,4 +1,7 @@
 // Loops over words of sixteen lanes, one word for each place. No lane picks a branch or an address.
+
+#![tactic(auto)]
+
 ghost use Rattle.std.specs.Prelude.{◌≡◌, ◌+◌, ◌*◌, ◌≤◌, ◌<◌, length};
 ghost use Rattle.std.specs.Int.Bits.{bit_xor};
 ghost use Rattle.field.specs.Packing.{Elements};

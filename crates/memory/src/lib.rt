@@ -1,5 +1,8 @@
 // Copy, clear and compare lent bytes. Nothing here knows what the bytes mean.
 // No byte chooses a branch or an address: how long a call takes goes by the lengths alone.
+
+#![tactic(auto)]
+
 ghost use Rattle.std.specs.Prelude.{◌≡◌, ◌<◌, min, length, replicate};
 ghost use Rattle.memory.specs.Lists.{over, same};
 

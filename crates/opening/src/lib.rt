@@ -1,5 +1,8 @@
 // Phase 5 of signing, algorithm 12 lines 37 to 40, first half: the path and the hidden party's commitment of each repetition are written to the section of
 // the signature lent for them, and the hidden leaf takes the place of its root. No seed chooses a branch or an address; the hidden party does, and is public by then.
+
+#![tactic(auto)]
+
 ghost use Rattle.std.specs.Prelude.{◌≡◌, ◌+◌, ◌*◌, ◌^◌, ◌≤◌, ◌<◌, length, take, drop};
 ghost use Rattle.memory.specs.Lists.{put};
 ghost use Rattle.sets.specs.Sets.{S};

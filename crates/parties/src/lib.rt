@@ -1,4 +1,7 @@
 // How many parties a repetition has, and how long their tapes are at most. What they hold, what they answer and why it adds up stand in specs/ and proofs/; the routines over them are the crates above.
+
+#![tactic(auto)]
+
 ghost use Rattle.std.specs.Prelude.{◌≡◌, ◌≤◌};
 ghost use Rattle.sets.specs.Sets.{N};
 

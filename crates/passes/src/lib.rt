@@ -1,5 +1,8 @@
 // The loops of signing over all repetitions, algorithm 12: phase 1, which commits to the shares of every party and works out the corrections.
 // No secret picks a branch; y picks places in the table of products where the corrections are worked out, and nothing else picks an address. The numbers of the repetitions are public.
+
+#![tactic(auto)]
+
 ghost use Rattle.std.specs.Prelude.{◌≡◌, ◌+◌, ◌-◌, ◌*◌, ◌≤◌, length, drop};
 ghost use mathlib.Core.List.{flatten, ◌++◌};
 ghost use Rattle.memory.specs.Lists.{put};

@@ -1,5 +1,8 @@
 // The tests of the sizes of a call (document 01, "What the desk says"): the lowest number that applies, or 0 where all are right. What the numbers are, and what lent
 // bytes hold afterwards by the number, stands in specs/.
+
+#![tactic(auto)]
+
 ghost use Rattle.std.specs.Prelude.{◌≡◌, ◌≤◌};
 ghost use Rattle.sets.specs.Sets.{S, params_of};
 ghost use Rattle.refusals.specs.Refusals.{message_limit, work_length, bad_set, bad_random, make_keys_sizes, public_half_sizes, sign_sizes, verify_sizes};

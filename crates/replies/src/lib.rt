@@ -1,5 +1,8 @@
 // The loops of signing over all repetitions once the challenges are drawn, algorithm 12: phase 3, which answers for every party, and of phase 5 the α of the hidden parties.
 // No secret picks a branch or an address; the numbers of the repetitions and of the hidden parties are public.
+
+#![tactic(auto)]
+
 mod hidden;
 mod inputs;
 mod repetition;

@@ -1,5 +1,8 @@
 // What the clip program says of the bytes that it has read: one line, `genuine S L` or `refused R` (document 01, "The clip envelope"). All that decides is here;
 // the program reads its input and writes the line. The call takes any arguments, and has its work of its own.
+
+#![tactic(auto)]
+
 ghost use Rattle.std.specs.Prelude.{◌≡◌, ◌+◌, ◌≤◌, ◌<◌, length, take};
 ghost use Rattle.memory.specs.Lists.{over, put};
 ghost use Rattle.refusals.specs.Refusals.{work_length, work_after};

@@ -1,4 +1,7 @@
 // The numbers of a repetition, from those of the set: what signing and verifying hand to the routines of sixteen parties.
+
+#![tactic(auto)]
+
 ghost use Rattle.std.specs.Prelude.{◌≡◌};
 ghost use Rattle.biscuit.specs.Room.{Fits};
 ghost use Rattle.reps.specs.Reps.{rep_of};

@@ -1,10 +1,13 @@
 // The six sets: their parameters, and the sizes of keys and signature that follow from them.
 // Facts of later crates are over the parameters; only this crate knows the numbers of a set.
+
+#![tactic(auto)]
+
 ghost use Rattle.std.specs.Prelude.{◌≡◌};
 ghost use Rattle.sets.specs.Sets.{params_of, RowOf, secret_key_length, public_key_length, signature_length};
 
 // What a set fixes: security bits, n variables, m equations, tau repetitions, and l levels of the seed tree (2 to the l parties).
-#[derive(Drop)]
+#[derive(Clone, Copy)]
 pub struct Params {
     pub bits: usize,
     pub n: usize,

@@ -1,4 +1,7 @@
 // SHAKE256 as one call, for programs in C and for the benchmark.
+
+#![tactic(auto)]
+
 ghost use Rattle.std.specs.Prelude.{◌≡◌, length};
 ghost use Rattle.sponge.specs.Sponge.{shake256};
 

@@ -1,5 +1,8 @@
 // Signing, algorithm 12 of the submission: salt and roots are drawn, the two passes over all repetitions give the hashes, and each section of the signature is written
 // through the part lent for it. Whether the key is consistent picks a branch, and is told; no other secret does, and secrets pick addresses in the table of products alone.
+
+#![tactic(auto)]
+
 mod sections;
 
 ghost use Rattle.std.specs.Prelude.{◌≡◌, cond, List, ℕ, ◌+◌, ◌*◌, length, take, drop};

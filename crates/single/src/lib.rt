@@ -1,5 +1,8 @@
 // The α of one party alone, for the hidden parties of a signature: the forms A1 at its share, which is one vector, times the challenge, plus its mask.
 // No secret picks a branch or an address; the numbers of the repetition and of the party are public.
+
+#![tactic(auto)]
+
 mod masks;
 
 ghost use Rattle.std.specs.Prelude.{cond, ◌≡◌, ℕ, ◌≤◌, ◌<◌, eqb, length, get_or, drop};

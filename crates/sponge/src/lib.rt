@@ -1,5 +1,8 @@
 // SHAKE256 of FIPS 202 as a state that each step takes by value and hands back: bytes are absorbed into a `Sponge`, `finish` makes a `Tape`
 // of it, and bytes are squeezed out of the tape. Nothing here branches on a byte or reads at a place that a byte gives.
+
+#![tactic(auto)]
+
 mod part;
 
 ghost use Rattle.std.specs.Prelude.{◌≡◌, ◌-◌, ◌<◌, length, take, drop, replicate};

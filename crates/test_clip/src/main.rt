@@ -1,5 +1,8 @@
 // Runs the clip program's check on many stored clips, and prints each case's name and line. `data/cases` has a line of 72 bytes for each: a name, the name of a stored clip, the
 // length at which it is taken, the place of one byte, and what is added to that byte by exclusive or. The independent program makes the clips, the cases and the expected lines.
+
+#![tactic(auto)]
+
 ghost use Rattle.std.specs.Prelude.{◌≤◌, ◌<◌, length};
 
 use libc::STDOUT_FILENO;

@@ -1,6 +1,9 @@
 // Runs the calls of the desk for all six sets, and prints a line a case: its name, the bits that are changed for it, what is lent, the answer, and what the call left in work and in its outputs.
 // The cases are both sides of every size, which of two refusals wins, keys that are not consistent, signatures that are accepted, and damage in every part of a key, a message and a signature
 // (`table`). The file `stdout` is what the independent program prints for `expected desk`.
+
+#![tactic(auto)]
+
 mod line;
 mod marks;
 mod places;

@@ -1,6 +1,9 @@
 // Prints the system of equations for all six sets: the circuit of a seed, the values of a secret, the linear parts of the forms at the shares of sixteen parties, and
 // the challenges and hidden parties of all repetitions. A set whose sizes have no room prints nothing. The file `stdout` is what the independent program prints for
 // `expected forms`.
+
+#![tactic(auto)]
+
 mod circuit;
 mod expanded;
 mod print;

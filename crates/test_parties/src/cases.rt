@@ -8,7 +8,7 @@ use sets::{LONGEST_SEED, MOST_EQUATIONS, MOST_VARIABLES};
 
 // The set; the hidden party, or 0 for the signer; 1 where the path is changed, or else 0; the bytes of a seed, the variables, the equations, the levels of the tree, the groups of
 // sixteen parties and the bytes of a path; and of the work, where the leaves begin, where the room of the answers begins, and its end.
-#[derive(Drop)]
+#[derive(Clone, Copy)]
 pub struct Case {
     pub set: usize,
     pub hidden: usize,

@@ -1,6 +1,9 @@
 // Prints repetition 3 of signing and of verifying for sets 2 and 5: the corrections, what the repetition gives to both hashes, and both hashes of a signature
 // that has this repetition only; then the same for a verifier to whom the first, the sixth or the last party is hidden, and for one who is given
 // a path with a changed byte. The file `stdout` is what the independent program prints for `expected parties`.
+
+#![tactic(auto)]
+
 mod cases;
 mod first;
 mod inputs;

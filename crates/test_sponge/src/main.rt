@@ -1,6 +1,9 @@
 // Prints answers of SHAKE256, one line a case: published messages, both sides of a block at the input and at the output, each whole and
 // in pieces, and a place far into a long output. The file `stdout` is what the independent program prints
 // for `expected sponge`; `tests/make-expected` writes it.
+
+#![tactic(auto)]
+
 ghost use Rattle.std.specs.Prelude.{◌≤◌, ◌<◌};
 
 use libc::STDOUT_FILENO;

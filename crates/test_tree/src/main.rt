@@ -1,5 +1,8 @@
 // Prints the seed tree of repetition 3 for all six sets: the leaves of a root, and for the first, the sixth and the last party the path and the leaves
 // that it gives back, with zeros for the hidden one. The file `stdout` is what the independent program prints for `expected tree`.
+
+#![tactic(auto)]
+
 ghost use Rattle.std.specs.Prelude.{◌≡◌, ◌≤◌, ◌^◌, ◌*◌, length};
 
 fn main() {

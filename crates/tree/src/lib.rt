@@ -1,6 +1,9 @@
 // The seed tree of section 4.4.1: all leaves of a root, the path that leaves one of them out, and the leaves that a path gives back. A level of the tree
 // lies at the start of the lent part and is spread out there, from its last seed to its first, so that no seed is overwritten before its children are made.
 // No seed chooses a branch or an address; the hidden party does, and is public by then.
+
+#![tactic(auto)]
+
 ghost use Rattle.std.specs.Prelude.{◌≡◌, ◌+◌, ◌-◌, ◌*◌, ◌/◌, ◌^◌, ◌≤◌, ◌<◌, length, get_or, take, drop, replicate};
 ghost use mathlib.Core.List.{[], flatten};
 ghost use Rattle.memory.specs.Lists.{put};

@@ -1,5 +1,8 @@
 // Words by party and words by place: the turn of sixteen words of sixteen lanes, packed vectors to lanes, and lanes back to packed bytes.
 // No element chooses a branch or an address.
+
+#![tactic(auto)]
+
 mod pack;
 mod turn;
 

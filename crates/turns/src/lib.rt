@@ -1,5 +1,8 @@
 // One repetition of verifying, or two side by side (algorithm 13 of the submission, lines 8 to 34): the other parties' seeds are rebuilt, commitments and corrections go
 // to the first hash, answers to the second. Everything here is public.
+
+#![tactic(auto)]
+
 mod first;
 mod pair;
 mod values;

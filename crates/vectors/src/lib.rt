@@ -1,5 +1,8 @@
 // Vectors of elements that lie packed in bytes from any half byte on: read to an element a byte, and written back from there.
 // No element chooses a branch or an address; the place and the lengths do, and they are public.
+
+#![tactic(auto)]
+
 ghost use Rattle.std.specs.Prelude.{◌≡◌, ◌+◌, ◌*◌, ◌≤◌, ◌<◌, length};
 ghost use Rattle.vectors.specs.Elements.{elements_at, elements_put, HalfPut, ReadTo};
 ghost use Rattle.field.specs.Packing.{unpack};

@@ -1,5 +1,8 @@
 // Verifying, algorithm 13 of the submission: the circuit, the challenges and the hidden parties are expanded once; then the repetitions go into the two hashes, two at a
 // time where a repetition has sixteen parties; both hashes are compared with the signature's. Everything here is public.
+
+#![tactic(auto)]
+
 ghost use Rattle.std.specs.Prelude.{◌≡◌, List, ℕ, ◌*◌, ◌≤◌, length};
 ghost use Rattle.memory.specs.Lists.{same};
 ghost use Rattle.sponge.specs.Steps.{finished, given};

@@ -1,6 +1,9 @@
 // Phase 1 of signing, algorithm 12 lines 6 to 22, and what verifying needs of it: the commitments of all parties are absorbed into the first hash, the
 // tapes are added up byte by byte, and the corrections are worked out of the sums and absorbed. One loop serves signing and verifying: party `hidden` has
 // a given commitment, and there is none where `hidden` is 0. No secret chooses a branch; the product alone reads its table at a place that its operands give.
+
+#![tactic(auto)]
+
 ghost use Rattle.std.specs.Prelude.{◌≡◌, ◌+◌, ◌*◌, ◌^◌, ◌≤◌, ◌<◌, length, take, drop};
 ghost use mathlib.Core.List.{◌++◌, flatten};
 ghost use Rattle.memory.specs.Sections.{pieces};
