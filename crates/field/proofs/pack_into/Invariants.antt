@@ -1,0 +1,20 @@
+-- `field::pack_into` meets its contract. The invariant: the first i bytes of `out` are those of the packing, and the others are as they were.
+-- Assumes nothing.
+use mathlib.Core.Path.{◌≡◌, ap₂, ◌∙◌}
+use mathlib.Core.List.{List, ◌++◌}
+use Prim.Native.Nat.{ℕ, ◌≤◌, ◌-◌, min}
+use native.Mathlib.Omega.{arith}
+use lib.ListN.{length, set, take, drop, length-set}
+use borrow.Author.Rules.{rules}
+use Rattle.memory.proofs.Parts.{copied_more, copied_all}
+use Rattle.field.specs.Packing.{pack, packed_length}
+use Rattle.field.proofs.Packing.{length-pack}
+use Rattle.field.proofs.pack_into.Given as goal
+
+abbrev pub invariant-loop-i : goal.invariant-loop-i
+invariant-loop-i l =
+    (l.i ≤ l.n) × (l.n ≡ min (packed_length (length l.elements)) (length l.initial.out)) × (length l.out ≡ length l.initial.out)
+    × (l.out ≡ take l.i (pack l.elements) ++ drop l.i l.initial.out)
+
+abbrev pub decreases-loop-i : goal.decreases-loop-i
+decreases-loop-i l = l.n - l.i

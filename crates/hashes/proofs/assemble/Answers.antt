@@ -1,0 +1,34 @@
+-- `hashes::assemble` meets its contract: the fields lie one after another, as the law `assembled` says.
+-- Assumes nothing.
+use native.Mathlib.Omega.{arith}
+use lib.ListN.{length-set}
+use Rattle.hashes.proofs.Laws.{assembled}
+use borrow.Author.Rules.{rules}
+use Rattle.hashes.proofs.assemble.Goals as goal
+
+pub section-a-requires : goal.section-a-requires
+section-a-requires c = simp length-set (omega arith)
+
+pub section-b-requires : goal.section-b-requires
+section-b-requires c =
+    let a = c.args in
+    let s = c.section-a in
+    omega (arith, s.auto.block, s.ensures.0, length-set a.block.now 0 a.byte)
+
+pub section-requires : goal.section-requires
+section-requires c =
+    let a = c.args in
+    let s = c.section-a in
+    let t = c.section-b in
+    omega (arith, s.auto.block, s.ensures.0, t.auto.block, t.ensures.0, length-set a.block.now 0 a.byte)
+
+pub returns : goal.returns
+returns c =
+    let a = c.args in
+    let s = c.section-a.ensures in
+    let t = c.section-b.ensures in
+    let u = c.section.ensures in
+    let k = c.section-a.auto.block in (
+      omega (arith, length-set a.block.now 0 a.byte),
+      assembled a.block.now _ _ _ _ _ _ _ _ _ _ (omega arith) s.0 s.1 t.0 t.1 u.0 u.1,
+    )

@@ -1,0 +1,19 @@
+-- `hashes::tape` meets its contract: the numbers' bytes are `enc16` of each, one after another.
+-- Assumes nothing.
+use mathlib.Core.Path.{ap, ◌∙◌}
+use mathlib.Core.List.{List, ◌∷◌, ◌++◌}
+use Prim.Native.Nat.{ℕ}
+use lib.ListN.{length}
+use Rattle.sponge.specs.Sponge.{shake256}
+use Rattle.hashes.specs.Hashes.{tape_fields, expanded_tape}
+use Rattle.hashes.proofs.Laws.{two_numbers}
+use borrow.Author.Rules.{rules}
+use Rattle.hashes.proofs.tape.Goals as goal
+
+pub returns : goal.returns
+unfolding tape_fields
+returns c =
+    let a = c.args in
+    c.fields.ensures
+    ∙ ap (λ (x : List ℕ). shake256 (expanded_tape ∷ (a.salt.now ++ x)) (length a.out.now))
+    (two_numbers _ _ _ _ _ _ a.seed.now c.low.ensures c.high.ensures c.low-2.ensures c.high-2.ensures)

@@ -1,0 +1,24 @@
+-- `linear::rows::add_byte_rows` meets its contract. The invariant: the first k words have their row's byte added, the others are as they were, and the next row stands at `from`.
+-- Assumes nothing.
+use mathlib.Core.Path.{◌≡◌, refl, subst, ◌∙◌}
+use mathlib.Core.List.{List}
+use Prim.Native.Nat.{ℕ, ◌+◌, ◌-◌, ◌*◌, ◌≤◌}
+use native.Mathlib.Omega.{arith}
+use lib.ListN.{length, get_or, length-set}
+use lib.Seq.{get_or-set_other}
+use Rattle.memory.proofs.Copied.{next_row}
+use Rattle.memory.proofs.Lists.{room}
+use lib.Bits.{bit_xor}
+use Rattle.linear.specs.Rows.{PairsOf, RowAdded, RowsAdded}
+use Rattle.linear.proofs.Added.{RowsUpTo, rows_more, row_byte}
+use borrow.Author.Rules.{rules}
+use Rattle.linear.proofs.rows.add_byte_rows.Given as goal
+
+abbrev pub invariant-loop-k : goal.invariant-loop-k
+invariant-loop-k l =
+    (l.k ≤ length l.initial.out) × (length l.out ≡ length l.initial.out) × (l.from ≡ l.start + l.k * l.width)
+    × ((j : ℕ) → l.k ≤ j → get_or l.out j 0 ≡ get_or l.initial.out j 0)
+    × ((s : List ℕ) (a : ℕ) → PairsOf (get_or s a 0) (get_or s (a + 1) 0) l.sums → RowsUpTo l.k l.circuit l.start l.width s a 2 l.initial.out l.out)
+
+abbrev pub decreases-loop-k : goal.decreases-loop-k
+decreases-loop-k l = length l.initial.out - l.k

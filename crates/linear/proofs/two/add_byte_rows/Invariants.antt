@@ -1,0 +1,27 @@
+-- `linear::two::add_byte_rows` meets its contract. The invariant: the first k words of each strand have their row's byte added, the others are as they were, and the next row stands at `from`.
+-- Assumes nothing.
+use mathlib.Core.Path.{◌≡◌, refl, sym, ap, subst, ◌∙◌}
+use mathlib.Core.List.{List}
+use Prim.Native.Nat.{ℕ, ◌+◌, ◌-◌, ◌*◌, ◌≤◌, ◌<◌}
+use native.Mathlib.Omega.{arith}
+use lib.ListN.{length, get_or, length-set}
+use Rattle.memory.proofs.Copied.{next_row}
+use Rattle.memory.proofs.Lists.{room}
+use lib.Bits.{bit_xor}
+use Rattle.linear.specs.Rows.{PairsOf, RowAdded}
+use Rattle.linear.specs.Two.{strand}
+use Rattle.linear.proofs.Added.{row_byte}
+use Rattle.linear.proofs.Strands.{strand_at, even_more, odd_more, two_behind}
+use Rattle.linear.proofs.TwoRows.{StrandUpTo, both_rows}
+use borrow.Author.Rules.{rules}
+use Rattle.linear.proofs.two.add_byte_rows.Given as goal
+
+abbrev pub invariant-loop-k : goal.invariant-loop-k
+invariant-loop-k l =
+    (l.k ≤ l.m) × (length l.out ≡ length l.initial.out) × (l.from ≡ l.start + l.k * l.width)
+    × ((i : ℕ) → l.k * 2 ≤ i → get_or l.out i 0 ≡ get_or l.initial.out i 0)
+    × ((s : List ℕ) (a : ℕ) → PairsOf (get_or s a 0) (get_or s (a + 1) 0) (strand 0 256 l.sums) → StrandUpTo 0 l.k l.circuit l.start l.width s a 2 l.initial.out l.out)
+    × ((s : List ℕ) (a : ℕ) → PairsOf (get_or s a 0) (get_or s (a + 1) 0) (strand 1 256 l.sums) → StrandUpTo 1 l.k l.circuit l.start l.width s a 2 l.initial.out l.out)
+
+abbrev pub decreases-loop-k : goal.decreases-loop-k
+decreases-loop-k l = l.m - l.k

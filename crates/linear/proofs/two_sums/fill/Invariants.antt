@@ -1,0 +1,17 @@
+-- `linear::two_sums::fill` meets its contract. The invariant: the sums of the first c pairs of words, and of the others, are written.
+-- Assumes nothing.
+use mathlib.Core.Path.{◌≡◌, subst, ◌∙◌}
+use Prim.Native.Nat.{ℕ, ◌+◌, ◌-◌, ◌*◌, ◌≤◌}
+use native.Mathlib.Omega.{arith}
+use borrow.Rule.Slice.PartMut.{same_len_mid}
+use lib.ListN.{length}
+use Rattle.linear.specs.Two.{BothFrom}
+use Rattle.linear.proofs.TwoSums.{both_lent, both_nothing}
+use borrow.Author.Rules.{rules}
+use Rattle.linear.proofs.two_sums.fill.Given as goal
+
+abbrev pub invariant-loop-c : goal.invariant-loop-c
+invariant-loop-c l = (l.c ≤ l.count) × (length l.pairs ≡ 2048) × (BothFrom l.words l.others l.at l.c l.pairs)
+
+abbrev pub decreases-loop-c : goal.decreases-loop-c
+decreases-loop-c l = l.count - l.c

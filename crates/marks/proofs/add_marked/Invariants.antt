@@ -1,0 +1,18 @@
+-- `marks::add_marked` meets its contract. The invariant: the words below k are those with their elements added, and the others are as they were.
+-- Assumes nothing.
+use mathlib.Core.Path.{◌≡◌, refl}
+use Prim.Native.Nat.{◌-◌, ◌≤◌}
+use native.Mathlib.Omega.{arith}
+use lib.ListN.{length, length-set}
+use Rattle.field.specs.Vectors.{◌!◌}
+use Rattle.memory.proofs.Groups.{Stepped, stepped_none, stepped_more, stepped_all}
+use Rattle.marks.specs.Marks.{MarkedWord, Marked, EachWord}
+use Rattle.marks.proofs.Marks.{marked_turn, marked_turn_fits}
+use borrow.Author.Rules.{rules}
+use Rattle.marks.proofs.add_marked.Given as goal
+
+abbrev pub invariant-loop-k : goal.invariant-loop-k
+invariant-loop-k l = (l.k ≤ length l.initial.words) × (length l.words ≡ length l.initial.words) × Stepped (λ j x y. MarkedWord (l.values ! j) l.mark x y) l.k l.initial.words l.words
+
+abbrev pub decreases-loop-k : goal.decreases-loop-k
+decreases-loop-k l = length l.initial.words - l.k

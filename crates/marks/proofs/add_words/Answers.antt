@@ -1,0 +1,27 @@
+-- `marks::add_words` meets its contract. The invariant: the words below k are added to, and the others are as they were.
+-- Assumes nothing.
+use mathlib.Core.Path.{◌≡◌, refl}
+use Prim.Native.Nat.{◌-◌, ◌≤◌}
+use native.Mathlib.Omega.{arith}
+use lib.Bits.{bit_xor}
+use lib.ListN.{length, length-set}
+use Rattle.field.specs.Vectors.{◌!◌}
+use Rattle.memory.proofs.Groups.{Stepped, stepped_none, stepped_more, stepped_all}
+use Rattle.marks.specs.Marks.{EachWord}
+use borrow.Author.Rules.{rules}
+use Rattle.marks.proofs.add_words.Goals as goal
+
+pub loop-k-init : goal.loop-k-init
+loop-k-init c = (omega arith, refl, stepped_none _ _)
+
+pub bounds-more-k : goal.bounds-more-k
+bounds-more-k c = omega arith
+
+pub loop-k-preserved : goal.loop-k-preserved
+loop-k-preserved c =
+    let l = c.loop-k in
+    (omega arith, simp length-set (omega arith), stepped_more _ _ _ _ l.invariant.2 _ (omega arith) (refl))
+
+pub returns : goal.returns
+unfolding EachWord
+returns c = stepped_all _ _ _ _ c.loop-k.invariant.2 (omega arith)

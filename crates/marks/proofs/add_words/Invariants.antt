@@ -1,0 +1,18 @@
+-- `marks::add_words` meets its contract. The invariant: the words below k are added to, and the others are as they were.
+-- Assumes nothing.
+use mathlib.Core.Path.{◌≡◌, refl}
+use Prim.Native.Nat.{◌-◌, ◌≤◌}
+use native.Mathlib.Omega.{arith}
+use lib.Bits.{bit_xor}
+use lib.ListN.{length, length-set}
+use Rattle.field.specs.Vectors.{◌!◌}
+use Rattle.memory.proofs.Groups.{Stepped, stepped_none, stepped_more, stepped_all}
+use Rattle.marks.specs.Marks.{EachWord}
+use borrow.Author.Rules.{rules}
+use Rattle.marks.proofs.add_words.Given as goal
+
+abbrev pub invariant-loop-k : goal.invariant-loop-k
+invariant-loop-k l = (l.k ≤ length l.initial.words) × (length l.words ≡ length l.initial.words) × Stepped (λ j x y. y ≡ bit_xor x (l.more ! j)) l.k l.initial.words l.words
+
+abbrev pub decreases-loop-k : goal.decreases-loop-k
+decreases-loop-k l = length l.initial.words - l.k

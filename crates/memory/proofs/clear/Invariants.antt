@@ -1,0 +1,16 @@
+-- `memory::clear` meets its contract. The invariant: the first i bytes are 0, and the others are as they were.
+-- Assumes nothing.
+use mathlib.Core.Path.{◌≡◌, ◌∙◌, ap, ap₂}
+use mathlib.Core.List.{List, ◌++◌, append-nil}
+use Prim.Native.Nat.{ℕ, ◌≤◌, ◌-◌}
+use native.Mathlib.Omega.{arith}
+use lib.ListN.{length, replicate, drop, set, drop_of_length-le, length-set}
+use borrow.Author.Rules.{rules}
+use borrow.Author.Fill.{fill_more}
+use Rattle.memory.proofs.clear.Given as goal
+
+abbrev pub invariant-loop-i : goal.invariant-loop-i
+invariant-loop-i l = (l.i ≤ length l.initial.dst) × (length l.dst ≡ length l.initial.dst) × (l.dst ≡ replicate l.i 0 ++ drop l.i l.initial.dst)
+
+abbrev pub decreases-loop-i : goal.decreases-loop-i
+decreases-loop-i l = length l.initial.dst - l.i

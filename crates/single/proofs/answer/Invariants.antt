@@ -1,0 +1,20 @@
+-- `single::answer` meets its contract. The invariant: the first k entries are those of x·ε + a, and the others are as they were.
+-- Assumes nothing.
+use mathlib.Core.Path.{◌≡◌, ◌∙◌}
+use mathlib.Core.List.{◌++◌}
+use Prim.Native.Nat.{◌-◌, ◌≤◌}
+use native.Mathlib.Omega.{arith}
+use lib.ListN.{length, take, drop, length-set}
+use Rattle.field.specs.Packing.{unpack}
+use Rattle.field.specs.Vectors.{◌⊕◌, ◌⊙◌}
+use Rattle.memory.proofs.Xors.{written_more, written_all}
+use Rattle.single.proofs.Alpha.{behind, length_answer, answer_entry}
+use borrow.Author.Rules.{rules}
+use Rattle.single.proofs.answer.Given as goal
+
+abbrev pub invariant-loop-k : goal.invariant-loop-k
+invariant-loop-k l =
+    (l.k ≤ length l.initial.out) × (length l.out ≡ length l.initial.out) × (l.out ≡ take l.k (l.initial.out ⊙ l.challenge ⊕ unpack (length l.initial.out) (drop l.mask l.tape)) ++ drop l.k l.initial.out)
+
+abbrev pub decreases-loop-k : goal.decreases-loop-k
+decreases-loop-k l = length l.initial.out - l.k

@@ -1,0 +1,17 @@
+-- `sponge::part::xor_words` meets its contract. The loop's invariant: the first j words are xored in. A turn is `words_turn`. The measure is how many words are left.
+-- Assumes nothing.
+use mathlib.Core.Path.{◌≡◌, refl, ap, ◌∙◌}
+use Prim.Native.Nat.{◌≤◌, ◌-◌, ◌*◌}
+use native.Mathlib.Omega.{arith}
+use borrow.Author.Rules.{rules}
+use lib.ListN.{take}
+use lib.Seq.{take_all}
+use Rattle.sponge.specs.Steps.{xor_bytes}
+use Rattle.sponge.proofs.Lanes.{words_turn}
+use Rattle.sponge.proofs.part.xor_words.Given as goal
+
+abbrev pub invariant-loop-j : goal.invariant-loop-j
+invariant-loop-j l = (l.j ≤ l.n) × (l.lanes ≡ xor_bytes l.initial.lanes (8 * l.k) (take (8 * l.j) l.bytes))
+
+abbrev pub decreases-loop-j : goal.decreases-loop-j
+decreases-loop-j l = l.n - l.j

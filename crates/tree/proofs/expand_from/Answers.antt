@@ -1,0 +1,12 @@
+-- `tree::expand_from` meets its contract: the seed is copied to a place of its own, and its children are put where they belong.
+-- Assumes nothing.
+use native.Mathlib.Omega.{arith}
+use Rattle.tree.proofs.Laying.{expanded}
+use borrow.Author.Rules.{rules}
+use Rattle.tree.proofs.expand_from.Goals as goal
+
+pub returns : goal.returns
+returns c =
+    let a = c.args in
+    expanded a.s a.salt.now a.e a.k a.j a.from a.to a.out.now a.seed.now c.copy.new.dst c.children.new.out
+    (omega arith) (omega arith) (omega arith) c.copy.ensures c.children.ensures

@@ -1,0 +1,9 @@
+-- `turns::absorb` meets its contract: one hash after the other.
+-- Assumes nothing.
+use borrow.Author.Rules.{rules}
+use Rattle.turns.proofs.absorb.Goals as goal
+
+pub returns : goal.returns
+returns c =
+    let one = c.absorb_first-first.ensures in
+    let two = c.absorb_second-second.ensures in record { turned = λ key is v l h. record { first = one key is v l; second = two.0 key is v l h }; left = two.1 }

@@ -1,0 +1,21 @@
+-- `vectors::put_element` meets its contract: in the low half of a byte, and in the high half.
+-- Assumes nothing.
+use Prim.Native.Nat.{◌/◌}
+use native.Mathlib.Omega.{arith}
+use borrow.Author.Rules.{rules}
+use Rattle.vectors.proofs.Laying.{low_put, high_put}
+use Rattle.vectors.proofs.put_element.Goals as goal
+
+pub overflow_mul-bytes : goal.overflow_mul-bytes
+overflow_mul-bytes c = omega (arith, c.type_inv.bytes (c.args.j / 2))
+
+pub overflow_add-bytes : goal.overflow_add-bytes
+overflow_add-bytes c = omega (arith, c.type_inv.bytes (c.args.j / 2))
+
+pub returns-then-j-eq0 : goal.returns-then-j-eq0
+returns-then-j-eq0 c =
+    low_put c.args.x c.args.j c.args.bytes.now c.if-j-eq0.true c.requires (omega (arith, c.type_inv.bytes (c.args.j / 2)))
+
+pub returns : goal.returns
+returns c =
+    high_put c.args.x c.args.j c.args.bytes.now c.if-j-eq0.false c.requires (omega (arith, c.type_inv.bytes (c.args.j / 2)))

@@ -1,0 +1,13 @@
+-- `views::absorb_packed_in` meets its contract: what is absorbed is the part of the room that was packed.
+-- Assumes nothing.
+use native.Mathlib.Omega.{arith}
+use Rattle.views.proofs.Absorbing.{absorbed_packed}
+use borrow.Author.Rules.{rules}
+use Rattle.views.proofs.absorb_packed_in.Goals as goal
+
+pub returns : goal.returns
+returns c =
+    let a = c.args in
+    let p = c.packed_length-n in
+    let m = c.pack_into in
+    absorbed_packed a.elements.now a.room.now m.new.out p.result a.hash _ p.ensures.0 (omega arith) m.ensures c.absorb.ensures

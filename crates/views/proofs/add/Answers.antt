@@ -1,0 +1,36 @@
+-- `views::add` meets its contract. The invariant: the first i bytes are those of the sum, and the others are as they were.
+-- Assumes nothing.
+use mathlib.Core.Path.{◌≡◌, ◌∙◌}
+use mathlib.Core.List.{◌++◌}
+use Prim.Native.Nat.{◌-◌, ◌≤◌}
+use native.Mathlib.Omega.{arith}
+use lib.ListN.{length, take, drop, length-set}
+use Rattle.field.specs.Vectors.{◌⊕◌}
+use Rattle.memory.proofs.Xors.{written_all}
+use Rattle.views.proofs.Entries.{length-sum, sum-entry}
+use borrow.Author.Rules.{rules}
+use Rattle.views.proofs.add.Goals as goal
+
+pub bounds-more-i : goal.bounds-more-i
+bounds-more-i c = omega arith
+
+pub overflow_add-i : goal.overflow_add-i
+overflow_add-i c = omega arith
+
+pub loop-i-smaller : goal.loop-i-smaller
+loop-i-smaller c = omega arith
+
+pub loop-i-preserved : goal.loop-i-preserved
+loop-i-preserved c =
+    let l = c.loop-i in
+    let a = c.args in (
+      omega arith,
+      simp length-set (omega arith),
+      sum-entry a.more.now a.sums.now l.sums l.i (omega arith) (omega arith) l.invariant.2,
+    )
+
+pub returns : goal.returns
+returns c =
+    let l = c.loop-i in
+    let a = c.args in
+    l.invariant.2 ∙ written_all (a.sums.now ⊕ a.more.now) a.sums.now l.i (length-sum a.sums.now a.more.now (omega arith)) (omega arith)

@@ -1,0 +1,19 @@
+-- `views::add` meets its contract. The invariant: the first i bytes are those of the sum, and the others are as they were.
+-- Assumes nothing.
+use mathlib.Core.Path.{◌≡◌, ◌∙◌}
+use mathlib.Core.List.{◌++◌}
+use Prim.Native.Nat.{◌-◌, ◌≤◌}
+use native.Mathlib.Omega.{arith}
+use lib.ListN.{length, take, drop, length-set}
+use Rattle.field.specs.Vectors.{◌⊕◌}
+use Rattle.memory.proofs.Xors.{written_all}
+use Rattle.views.proofs.Entries.{length-sum, sum-entry}
+use borrow.Author.Rules.{rules}
+use Rattle.views.proofs.add.Given as goal
+
+abbrev pub invariant-loop-i : goal.invariant-loop-i
+invariant-loop-i l =
+    (l.i ≤ length l.initial.sums) × (length l.sums ≡ length l.initial.sums) × (l.sums ≡ take l.i (l.initial.sums ⊕ l.more) ++ drop l.i l.initial.sums)
+
+abbrev pub decreases-loop-i : goal.decreases-loop-i
+decreases-loop-i l = length l.initial.sums - l.i

@@ -1,0 +1,13 @@
+-- `views::commit_in` meets its contract: what is absorbed is the part of the room that was filled.
+-- Assumes nothing.
+use mathlib.Core.Path.{refl}
+use native.Mathlib.Omega.{arith}
+use Rattle.views.proofs.Absorbing.{absorbed-commitment}
+use borrow.Author.Rules.{rules}
+use Rattle.views.proofs.commit_in.Goals as goal
+
+pub returns : goal.returns
+returns c =
+    let a = c.args in
+    let m = c.commit in
+    absorbed-commitment a.salt.now a.seed.now a.e a.i _ a.room.now m.new.out a.hash _ refl (omega arith) m.ensures c.absorb.ensures

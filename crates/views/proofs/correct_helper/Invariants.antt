@@ -1,0 +1,20 @@
+-- `views::correct_helper` meets its contract. The invariant: the first k entries are those of Δc, and the others are as they were.
+-- Assumes nothing.
+use mathlib.Core.Path.{◌≡◌, ◌∙◌}
+use mathlib.Core.List.{◌++◌}
+use Prim.Native.Nat.{◌-◌, ◌≤◌}
+use native.Mathlib.Omega.{arith}
+use lib.ListN.{length, take, drop, length-set}
+use Rattle.field.specs.Packing.{unpack}
+use Rattle.field.specs.Vectors.{◌⊕◌, ◌⊙◌}
+use Rattle.memory.proofs.Xors.{written_more, written_all}
+use Rattle.views.proofs.Entries.{length-correction_c, helper-entry}
+use borrow.Author.Rules.{rules}
+use Rattle.views.proofs.correct_helper.Given as goal
+
+abbrev pub invariant-loop-k : goal.invariant-loop-k
+invariant-loop-k l =
+    (l.k ≤ length l.initial.dc) × (length l.dc ≡ length l.initial.dc) × (l.dc ≡ take l.k (l.y ⊙ unpack (length l.y) (drop l.mask l.sums) ⊕ unpack (length l.y) (drop l.helper l.sums)) ++ drop l.k l.initial.dc)
+
+abbrev pub decreases-loop-k : goal.decreases-loop-k
+decreases-loop-k l = length l.initial.dc - l.k

@@ -1,0 +1,19 @@
+-- `views::correct_secret` meets its contract. The invariant: the first k entries are those of Δs, and the others are as they were.
+-- Assumes nothing.
+use mathlib.Core.Path.{◌≡◌, ◌∙◌}
+use mathlib.Core.List.{◌++◌}
+use Prim.Native.Nat.{◌-◌, ◌≤◌}
+use native.Mathlib.Omega.{arith}
+use lib.ListN.{length, take, drop, length-set}
+use Rattle.views.specs.Views.{correction_s}
+use Rattle.memory.proofs.Xors.{written_more, written_all}
+use Rattle.views.proofs.Entries.{length-correction_s, secret-entry}
+use borrow.Author.Rules.{rules}
+use Rattle.views.proofs.correct_secret.Given as goal
+
+abbrev pub invariant-loop-k : goal.invariant-loop-k
+invariant-loop-k l =
+    (l.k ≤ length l.initial.ds) × (length l.ds ≡ length l.initial.ds) × (l.ds ≡ take l.k (correction_s (length l.s) l.s l.sums) ++ drop l.k l.initial.ds)
+
+abbrev pub decreases-loop-k : goal.decreases-loop-k
+decreases-loop-k l = length l.initial.ds - l.k
