@@ -10,4 +10,4 @@ use Rattle.keccak.proofs.permute.Goals as goal
 
 pub returns : goal.returns
 unfolding state lane listed
-returns c = c.rounds-s.ensures ∙ ap keccak_f (state_lanes c.args.t1 (omega (arith, c.well_formed.0)))
+returns c = c.rounds-s.ensures ∙ ap keccak_f (state_lanes c.args.a (omega (arith, c.well_formed.0)))

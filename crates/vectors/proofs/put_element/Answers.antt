@@ -7,15 +7,15 @@ use Rattle.vectors.proofs.Laying.{low_put, high_put}
 use Rattle.vectors.proofs.put_element.Goals as goal
 
 pub overflow_mul-bytes : goal.overflow_mul-bytes
-overflow_mul-bytes c = omega (arith, c.type_inv.bytes (c.args.j / 2))
+overflow_mul-bytes c = omega arith
 
 pub overflow_add-bytes : goal.overflow_add-bytes
-overflow_add-bytes c = omega (arith, c.type_inv.bytes (c.args.j / 2))
+overflow_add-bytes c = omega arith
 
 pub returns-then-j-eq0 : goal.returns-then-j-eq0
 returns-then-j-eq0 c =
-    low_put c.args.x c.args.j c.args.bytes.now c.if-j-eq0.true c.requires (omega (arith, c.type_inv.bytes (c.args.j / 2)))
+    low_put c.args.x c.args.j c.args.bytes.now c.if-j-eq0.true c.requires (omega arith)
 
 pub returns : goal.returns
 returns c =
-    high_put c.args.x c.args.j c.args.bytes.now c.if-j-eq0.false c.requires (omega (arith, c.type_inv.bytes (c.args.j / 2)))
+    high_put c.args.x c.args.j c.args.bytes.now c.if-j-eq0.false c.requires (omega arith)

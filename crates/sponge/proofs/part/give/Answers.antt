@@ -18,11 +18,11 @@ returns-then-n-eq-RATE c =
 pub give_bytes-requires-2 : goal.give_bytes-requires-2
 give_bytes-requires-2 c =
     let a = c.args in
-    let h = c. in
+    let h = c.before-h in
     rest-room a.at (length a.out.now) h.result _ h.ensures refl _ c.requires
 
 pub returns : goal.returns
 returns c =
     let a = c.args in
-    let h = c. in
+    let h = c.before-h in
     give_pieces a.lanes.now a.at a.out.now h.result _ _ _ _ h.ensures refl c.give_bytes.ensures c.give_words-2.ensures c.give_bytes-2.ensures

@@ -18,7 +18,7 @@ returns-then-n-eq-RATE c =
 pub xor_few-requires-2 : goal.xor_few-requires-2
 xor_few-requires-2 c =
     let a = c.args in
-    let h = c. in (
+    let h = c.before-h in (
       rest_start a.at (length a.bytes.now) h.result _ h.ensures refl c.requires,
       rest_few a.at (length a.bytes.now) h.result _ h.ensures refl _,
     )
@@ -26,5 +26,5 @@ xor_few-requires-2 c =
 pub returns : goal.returns
 returns c =
     let a = c.args in
-    let h = c. in
+    let h = c.before-h in
     xor-pieces _ a.at a.bytes.now h.result _ _ _ _ h.ensures refl c.xor_few.ensures c.xor_words-2.ensures c.xor_few-2.ensures

@@ -10,6 +10,7 @@ use Rattle.lanes.proofs.Bytes.{put-behind}
 use Rattle.turning.proofs.Windows.{PackedTo, packed_none, packed_more, packed_all, party-lt, next_inside, next_across}
 use borrow.Author.Rules.{rules}
 use Rattle.turning.proofs.pack.write_windows.Goals as goal
+use Rattle.turning.proofs.pack.write_windows.Goals.{then-k-m, else-k-m}
 
 pub loop-o-init : goal.loop-o-init
 loop-o-init c = (refl, omega arith, omega arith, omega arith, packed_none _ _, refl)
@@ -32,8 +33,11 @@ loop-o-preserved c =
     let m = length c.args.words.now in (
       w.auto.bytes ∙ l.invariant.0,
       omega arith,
-      ⊎_elim (λ v. omega arith) (λ v. omega arith) c.if-k-m.branch,
-      ⊎_elim (λ v. next_across m l.q l.k l.o l.invariant.3 v.0.taken ∙ sym (ap₂ (λ (a b : ℕ). m * a + b) v.1 v.2)) (λ v. next_inside m l.q l.k l.o l.invariant.3 ∙ sym (ap₂ (λ (a b : ℕ). m * a + b) v.1 v.2)) c.if-k-m.branch,
+      elim c.if-k-m.branch [ then-k-m v ↦ omega arith | else-k-m v ↦ omega arith ],
+      elim c.if-k-m.branch [
+        | then-k-m v ↦ next_across m l.q l.k l.o l.invariant.3 v.if-k-m.true ∙ sym (ap₂ (λ (a b : ℕ). m * a + b) v.q-is v.k-is)
+        | else-k-m v ↦ next_inside m l.q l.k l.o l.invariant.3 ∙ sym (ap₂ (λ (a b : ℕ). m * a + b) v.q-is v.k-is)
+      ],
       rw w.ensures (packed_more c.args.words.now l.out l.o l.q l.k e.result c.requires.0 (omega arith) l.invariant.3 l.invariant.2 l.invariant.4 e.ensures),
       rw w.ensures (put-behind l.out (8 * l.o) (8 * m) e.result (omega arith) (omega arith) ∙ l.invariant.5),
     )

@@ -8,4 +8,4 @@ use Rattle.turning.proofs.turn.stage1.Goals as goal
 
 pub returns : goal.returns
 unfolding table
-returns c = stage_mixed 1 _ mask1 c.args.t1 _ refl
+returns c = stage_mixed 1 _ mask1 c.args.x _ refl

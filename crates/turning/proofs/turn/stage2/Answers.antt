@@ -8,4 +8,4 @@ use Rattle.turning.proofs.turn.stage2.Goals as goal
 
 pub returns : goal.returns
 unfolding table
-returns c = stage_mixed 2 _ mask2 c.args.t1 _ refl
+returns c = stage_mixed 2 _ mask2 c.args.x _ refl

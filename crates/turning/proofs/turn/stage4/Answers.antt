@@ -8,4 +8,4 @@ use Rattle.turning.proofs.turn.stage4.Goals as goal
 
 pub returns : goal.returns
 unfolding table
-returns c = stage_mixed 4 _ mask4 c.args.t1 _ refl
+returns c = stage_mixed 4 _ mask4 c.args.x _ refl
