@@ -82,7 +82,7 @@ pub passed_more : (n m at : ℕ) (αs ys ws : List (List ℕ)) (s r : Sponge) (s
     → Turn n m αs ys ws s sa₀ sy₀ sw₀ sa sy sw (take (16 * m) (drop (at + n * (16 * m)) new)) r → Passed (n + 1) m αs ys ws sa sy sw (drop at new)
 passed_more n m at αs ys ws s r sa₀ sy₀ sw₀ sa sy sw old new same p t = record {
   alpha = λ k h. sum_more n m αs sa₀ sa t.alpha k h (p.alpha k h);
-  second_form = λ k h. sum_more n m ys sy₀ sy t.second-form k h (p.second-form k h);
+  second_form = λ k h. sum_more n m ys sy₀ sy t.second_form k h (p.second_form k h);
   rest = λ k h. sum_more n m ws sw₀ sw t.rest k h (p.rest k h);
   kept = kept_more n m at ys ws old new same p.kept t.kept;
 }
@@ -114,7 +114,7 @@ pub passed_sums : (n m : ℕ) (αs ys ws : List (List ℕ)) (sa sy sw all : List
     → Sums m αs ys ws sa sy sw
 passed_sums n m αs ys ws sa sy sw all la ly lw p = record {
   alpha = λ k h. p.alpha k h ∙ total_all αs n k la;
-  second_form = λ k h. p.second-form k h ∙ total_all ys n k ly;
+  second_form = λ k h. p.second_form k h ∙ total_all ys n k ly;
   rest = λ k h. p.rest k h ∙ total_all ws n k lw;
 }
 

@@ -41,7 +41,7 @@ group_fixed g m ys ws a b la lb ha hb x y = bytes_by_halves a b ha hb (la ∙ sy
               (let e : 16 * (j / 16) + j % 16 ≡ j = omega arith in
               let k : j / 16 < m = omega arith in
               let q : j % 16 < 16 = omega arith in
-              subst (λ (i : ℕ). nib a i ≡ nib b i) e (x.second-form (j / 16) (j % 16) k q ∙ sym (y.second-form (j / 16) (j % 16) k q)))
+              subst (λ (i : ℕ). nib a i ≡ nib b i) e (x.second_form (j / 16) (j % 16) k q ∙ sym (y.second_form (j / 16) (j % 16) k q)))
           | no h ↦
               (let e : 16 * (m + (j - 16 * m) / 16) + (j - 16 * m) % 16 ≡ j = omega arith in
               let k : (j - 16 * m) / 16 < m = omega arith in

@@ -142,7 +142,7 @@ module _ (rep : Rep) (salt leaves v : List ℕ) where
         pub second_forms_in : InLanes g (second_forms_of rep circuit salt leaves v) y
         unfolding InLanes Holds second_forms_of
         second_forms_in k q hk hq =
-            h.second-form k q hk hq
+            h.second_form k q hk hq
             ∙ ap (λ (l : List ℕ). l ! k) (sym (entry_of (λ i p. cond (eqb i rep.hidden) [] (y_of (circuit_in rep.n rep.m circuit) i p)) (16 * g + q) (omega arith)))
 
         pub rests_in : InLanes g (rests_of rep circuit salt leaves v) z

@@ -174,7 +174,7 @@ lane_sum-lt w = sum_lt 16 (λ q. lane q w) (λ q. lane-lt q w)
 pub folded_elements : (m : ℕ) (sa sy sw alpha given : List ℕ) → length given ≡ m → Folded m sa sy sw alpha given → Elements given
 folded_elements m sa sy sw alpha given e f k =
     elim (dec_lt k m) as (λ d. get_or given k 0 < 16) [
-      | yes y ↦ rw (f.given-sum k y) (xor_lt 4 (mul (lane_sum (sy ! k)) (lane_sum (sa ! k))) (lane_sum (sw ! k)) (mul-lt (lane_sum (sy ! k)) (lane_sum (sa ! k))) (lane_sum-lt (sw ! k)))
+      | yes y ↦ rw (f.given_sum k y) (xor_lt 4 (mul (lane_sum (sy ! k)) (lane_sum (sa ! k))) (lane_sum (sw ! k)) (mul-lt (lane_sum (sy ! k)) (lane_sum (sa ! k))) (lane_sum-lt (sw ! k)))
       | no y ↦ rw (get_or-eq_default given 0 {n = k} (omega arith)) (lit< tt)
     ]
 
@@ -204,7 +204,7 @@ v_packs rep g alpha given part words ys ws vs inside e all kept held =
     let count = all.count in
     packs_group rep.m vs (λ p h. all.sized p (omega arith)) g (omega arith) words e (λ k q hk hq.
     held k q (omega arith) hq
-    ∙ ap₂ (λ (a b : ℕ). v_at (suc (16 * g + q)) rep.hidden (alpha ! k) (given ! k) a b) (kept.second-form k q (omega arith) hq) (kept.rest k q (omega arith) hq)
+    ∙ ap₂ (λ (a b : ℕ). v_at (suc (16 * g + q)) rep.hidden (alpha ! k) (given ! k) a b) (kept.second_form k q (omega arith) hq) (kept.rest k q (omega arith) hq)
     ∙ sym (all.entry (16 * g + q) k (omega arith) (omega arith)))
 
 -- the same of lists that are equal

@@ -154,13 +154,13 @@ module _ (rep : Rep) (circuit salt leaves v : List ℕ) (size : length v ≡ val
       (sums : Sums rep.m (alphas_of rep circuit salt leaves v) (second_forms_of rep circuit salt leaves v) (rests_of rep circuit salt leaves v) sa sy sw)
       (folded : Folded rep.m sa sy sw alpha given) where
     alpha-place : (k : ℕ) → k < rep.m → alpha ! k ≡ total (alphas_of rep circuit salt leaves v) ! k
-    alpha-place k l = folded.alpha-sum k l ∙ sums.alpha k l
+    alpha-place k l = folded.alpha_sum k l ∙ sums.alpha k l
 
     given-place : (k : ℕ) → k < rep.m → given ! k ≡ hidden_of ! k
     given-place k l =
-        folded.given-sum k l
+        folded.given_sum k l
         ∙ ap₂ bit_xor
-        (ap₂ mul (sums.second-form k l) (sums.alpha k l))
+        (ap₂ mul (sums.second_form k l) (sums.alpha k l))
         (sums.rest k l)
         ∙ sym (hidden_at k)
 

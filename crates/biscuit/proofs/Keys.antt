@@ -155,7 +155,7 @@ consistent_true P key h =
 
 pub true_consistent : (P : Params) (key : SecretKey) → Consistent (circuit P key.seed_f) key.s key.t key.y → consistent P key ≡ true
 unfolding consistent
-true_consistent P key c = ap₂ ◌&&◌ (equal_same key.t _ c.target) (equal_same key.y _ c.second-form)
+true_consistent P key c = ap₂ ◌&&◌ (equal_same key.t _ c.target) (equal_same key.y _ c.second_form)
 
 -- ---- made keys
 

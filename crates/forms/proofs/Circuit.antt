@@ -101,7 +101,7 @@ pub length-target : (m : ℕ) (f : Circuit) (s t y : List ℕ) → Equations m f
 length-target m f s t y h key = ap length (key.target ∙ eval_circuit-t s f) ∙ length-evaluate m f s h
 
 pub length-second_form : (m : ℕ) (f : Circuit) (s t y : List ℕ) → Equations m f → Consistent f s t y → length y ≡ m
-length-second_form m f s t y h key = ap length (key.second-form ∙ eval_circuit-y s f) ∙ length-affine m f.A2 s h.A2
+length-second_form m f s t y h key = ap length (key.second_form ∙ eval_circuit-y s f) ∙ length-affine m f.A2 s h.A2
 
 pub linear-elements : (A : Affine) (s : List ℕ) → Elements (linear A s)
 linear-elements A s k = rw (linear_at A s k) (dot-lt (get_or A.rows k []) s)

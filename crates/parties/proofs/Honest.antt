@@ -32,7 +32,7 @@ module _ (f : Circuit) (s t y ε : List ℕ) (ps : List Share) (some-party : 0 <
 
       product : mul (affine f.A2 (secret ps) ! k) (mask ps ! k) ≡ (y ⊙ mask ps) ! k
       product =
-          ap (λ (x : List ℕ). mul (x ! k) (mask ps ! k)) (ap (affine f.A2) sum ∙ sym (eval_circuit-y s f) ∙ sym key.second-form)
+          ap (λ (x : List ℕ). mul (x ! k) (mask ps ! k)) (ap (affine f.A2) sum ∙ sym (eval_circuit-y s f) ∙ sym key.second_form)
           ∙ sym (⊙-at y (mask ps) k)
 
   -- With the helper of honest signing and a consistent key, the check values sum to 0 at every equation.

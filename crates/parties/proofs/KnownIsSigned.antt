@@ -16,7 +16,7 @@ use Rattle.parties.specs.Repetition.{first, second, com_of, raw_share, coms, raw
 use Rattle.parties.proofs.Numbered.{numbered-numbered}
 use Rattle.parties.proofs.Sizes.{AllSized, each_v, length-vs}
 use Rattle.parties.proofs.Corrections.{length-shares, shares-sized, shares-sum_to_secret, shares-helper}
-use Rattle.parties.proofs.Hidden.{parties-left_out, filled-left_out, filled-own, filled_nobody}
+use Rattle.parties.proofs.LeftOut.{parties-left_out, filled-left_out, filled-own, filled_nobody}
 use Rattle.parties.proofs.OthersSum.{total-present-left_out, hidden_is_sum_of_others}
 use Rattle.parties.proofs.Honest.{honest_sum_is_zero}
 

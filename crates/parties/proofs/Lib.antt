@@ -1,8 +1,8 @@
 pub mod Corrections
 pub mod Growing
-pub mod Hidden
 pub mod Honest
 pub mod KnownIsSigned
+pub mod LeftOut
 pub mod Numbered
 pub mod OneChallenge
 pub mod OneOutcome

@@ -52,7 +52,7 @@ one-challenge_of_sixteen f t ps k h e he ht hc miss =
       only.root,
       only.small,
       λ ε small. (
-        λ z. (only.zero-iff (ε ! k) small).0 (sym (sum_at f t ε ps k h e) ∙ z),
-        λ i. sum_at f t ε ps k h e ∙ (only.zero-iff (ε ! k) small).1 i,
+        λ z. (only.zero_iff (ε ! k) small).0 (sym (sum_at f t ε ps k h e) ∙ z),
+        λ i. sum_at f t ε ps k h e ∙ (only.zero_iff (ε ! k) small).1 i,
       ),
     )

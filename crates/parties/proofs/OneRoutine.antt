@@ -14,7 +14,7 @@ use Rattle.forms.specs.Circuit.{Circuit}
 use Rattle.parties.specs.Parties.{Share, numbered, parties, alpha_of, v_of}
 use Rattle.parties.specs.Repetition.{com_of, known_coms, given_at, left_out, present, all_coms, all_alphas, known_vs, all_vs}
 use Rattle.parties.proofs.Numbered.{numbered-same, numbered-numbered}
-use Rattle.parties.proofs.Hidden.{parties-left_out}
+use Rattle.parties.proofs.LeftOut.{parties-left_out}
 use Rattle.parties.proofs.OthersSum.{total-present-filled}
 
 parties-parties : {A B C : Type 0} (g : ℕ → B → C) (k : ℕ → A → B) (l : List A) → parties g (parties k l) ≡ parties (λ i x. g i (k i x)) l

@@ -14,7 +14,7 @@ use Rattle.field.proofs.Vectors.{⊕-at, ⊕-comm, ⊕-assoc}
 use Rattle.tree.specs.Tree.{filled}
 use Rattle.parties.specs.Repetition.{left_out, present}
 use Rattle.parties.proofs.Sizes.{length-total, length-entry}
-use Rattle.parties.proofs.Hidden.{blanked, left_out_blanked, filled-left_out}
+use Rattle.parties.proofs.LeftOut.{blanked, left_out_blanked, filled-left_out}
 
 -- what is missing adds nothing
 pub total-present-filled : (l : List (Option (List ℕ))) → total (present l) ≡ total (filled [] l)

@@ -7,7 +7,7 @@ use Rattle.tree.specs.Tree.{Children, get_seeds, get_path, get_path_seeds}
 use Rattle.tree.proofs.Coded.{coded}
 use Rattle.tree.proofs.Theorems.{path_rebuilds_the_others, any_path_hides_one}
 use Rattle.parties.specs.Repetition.{left_out}
-use Rattle.parties.proofs.Hidden.{hide-left_out}
+use Rattle.parties.proofs.LeftOut.{hide-left_out}
 
 module _ (kids : Children) (L h : ℕ) (legal : h - 1 < 2 ^ L) (from_one : 1 ≤ h) where
   -- an honest path: the signer's seeds but for the hidden party's

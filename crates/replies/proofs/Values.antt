@@ -103,9 +103,9 @@ module _ (x y z w old v₁ v₂ v₃ v₄ : List ℕ) (a b c d : ℕ) (ab : a �
   unfolding t_in
   filled_values P e secret packing challenge size ea eb ec ed ex ey ez ew =
       let s = four_sizes x y z old v₁ v₂ v₃ a b c d ab bc cd room e₁ e₂ e₃ kx ky kz in
-      four_sections x y z old v₁ v₂ v₃ a b c d ab bc cd room e₁ e₂ e₃ w v₄ e₄ (kx ∙ s.first-is) (ky ∙ s.second_is) (kz ∙ s.third-is) (kw ∙ s.fourth-is)
-      ∙ ap₂ (λ (u v : List ℕ). u ++ v) (ex ∙ ap (elements_at packing ((e - 1) * a)) s.first-is ∙ ap (λ (k : ℕ). elements_at packing ((e - 1) * k) k) ea)
+      four_sections x y z old v₁ v₂ v₃ a b c d ab bc cd room e₁ e₂ e₃ w v₄ e₄ (kx ∙ s.first_is) (ky ∙ s.second_is) (kz ∙ s.third_is) (kw ∙ s.fourth_is)
+      ∙ ap₂ (λ (u v : List ℕ). u ++ v) (ex ∙ ap (elements_at packing ((e - 1) * a)) s.first_is ∙ ap (λ (k : ℕ). elements_at packing ((e - 1) * k) k) ea)
       (ap₂ (λ (u v : List ℕ). u ++ v) (ey ∙ ap (λ (k : ℕ). unpack k challenge) (s.second_is ∙ eb))
       (ap₂ (λ (u v : List ℕ). u ++ v)
-      (ez ∙ over-whole (take (a - P.n) (drop P.n secret)) (take (c - b) (drop b v₂)) (copied_size P secret a size ea ∙ sym (s.third-is ∙ ec)) ∙ copied_part P secret a ea)
-      (ew ∙ ap (λ (k : ℕ). replicate k 0) (s.fourth-is ∙ ed))))
+      (ez ∙ over-whole (take (a - P.n) (drop P.n secret)) (take (c - b) (drop b v₂)) (copied_size P secret a size ea ∙ sym (s.third_is ∙ ec)) ∙ copied_part P secret a ea)
+      (ew ∙ ap (λ (k : ℕ). replicate k 0) (s.fourth_is ∙ ed))))

@@ -37,9 +37,9 @@ module _ (P : Params) where
   -- a pass keeps what a signer holds
   signer_kept : (w v : List ℕ) → Kept P w v → (signer : Signer) (salt secret : List ℕ) → HoldsSigner P signer salt secret w → HoldsSigner P signer salt secret v
   signer_kept w v kept signer salt secret held = record {
-    holds_secret = held.holds-secret;
-    holds_roots = roots_kept P signer w v kept held.holds-roots;
-    holds_circuit = subst (HoldsCircuit P.n P.m (f P signer)) (sym kept.circuit) held.holds-circuit;
+    holds_secret = held.holds_secret;
+    holds_roots = roots_kept P signer w v kept held.holds_roots;
+    holds_circuit = subst (HoldsCircuit P.n P.m (f P signer)) (sym kept.circuit) held.holds_circuit;
   }
 
   -- ---- the challenges of the first hash, written behind the roots
@@ -73,8 +73,8 @@ module _ (P : Params) where
         → Challenged P signer msg salt secret packing (put w (challenges_at P) (shake256 h1 (P.tau * packed_length P.m)))
     unfolding tape
     signer_challenged signer msg salt secret packing same held corrected = record {
-      held = held.holds-secret;
-      circuit = subst (HoldsCircuit P.n P.m (f P signer)) (sym circuit-before) held.holds-circuit;
+      held = held.holds_secret;
+      circuit = subst (HoldsCircuit P.n P.m (f P signer)) (sym circuit-before) held.holds_circuit;
       challenges =
           challenges_expanded P signer msg _
           (ap (take (P.tau * packed_length P.m)) (from_put w (challenges_at P) tape tape_fits)
@@ -128,12 +128,12 @@ module _ (P : Params) where
       let there = sym (challenges-put fits w h1 l a e at to size tape) in
       let room : room_end P ≤ length w = (let enough = fits.enough in omega arith) in
       let told = subst (Challenged P signer msg salt secret packing) there (signer_challenged w h1 room signer msg salt secret packing same held corrected) in
-      let roots = subst (λ (x : List ℕ). HoldsRoots P signer (drop (roots_at P) x)) there (roots-challenged w h1 room signer held.holds-roots) in
+      let roots = subst (λ (x : List ℕ). HoldsRoots P signer (drop (roots_at P) x)) there (roots-challenged w h1 room signer held.holds_roots) in
       record {
         challenged = challenged-kept P signer msg salt secret packing _ v kept told;
         rooted = roots_kept P signer _ v kept roots;
         first = same;
-        second = second-hashed signer msg salt h1 h2 n s r t held.holds-secret.salted same many begun (pass signer msg told roots) done out;
+        second = second-hashed signer msg salt h1 h2 n s r t held.holds_secret.salted same many begun (pass signer msg told roots) done out;
       }
 
   -- ---- the first hash
@@ -160,5 +160,5 @@ module _ (P : Params) where
       → HoldsSigner P signer salt secret w → HoldsHashes P signer msg salt secret h1 h2 packing u
   committed signer msg salt secret packing w v u h1 h2 n s₀ s r t size begun said absorbs writes kept done out answers held =
       answers signer msg (signer_kept w v kept signer salt secret held)
-      (first-hashed signer msg salt h1 n s₀ s r t held.holds-secret.salted size begun said (absorbs signer held.holds-secret held.holds-roots) done out)
-      (writes signer held.holds-secret held.holds-roots)
+      (first-hashed signer msg salt h1 n s₀ s r t held.holds_secret.salted size begun said (absorbs signer held.holds_secret held.holds_roots) done out)
+      (writes signer held.holds_secret held.holds_roots)

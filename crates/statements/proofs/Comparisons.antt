@@ -74,7 +74,7 @@ pub record CloseComparisons : Type 0 where
 sum_by_totals : (k : ℕ) (f : Circuit) (t ε : List ℕ) (ps : List Share) (x y z a c : ℕ) → TotalsAt k f t ps x y z a c
     → total (vs f t ε ps) ! k ≡ check_sum x y z a c (ε ! k)
 sum_by_totals k f t ε ps x y z a c h =
-    total-vs_at f t ε ps k ∙ rw (h.x-total, h.y-total, h.z-total, h.a-total, h.c-total)
+    total-vs_at f t ε ps k ∙ rw (h.x_total, h.y_total, h.z_total, h.a_total, h.c_total)
 
 every_challenge : (e : ℕ) → e < 16 → check_sum 2 9 1 3 8 e ≡ 0
 unfolding mul polynomial_product coefficient without modulus

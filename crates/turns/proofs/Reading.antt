@@ -200,7 +200,7 @@ module _ (n m : ℕ) (v r₁ r₂ r₃ : List ℕ) (size : length v ≡ n + m + 
       → length r₃ ≡ length (take (n + m + m + m - (n + m + m)) (drop (n + m + m) (after₂ (after₁ v r₁ (n + m)) r₂ (n + m) (n + m + m))))
       → length (take (n + m + m + m + m - (n + m + m + m)) (drop (n + m + m + m) (after₂ (after₂ (after₁ v r₁ (n + m)) r₂ (n + m) (n + m + m)) r₃ (n + m + m) (n + m + m + m)))) ≡ m
   last-room k₁ k₂ k₃ =
-      (four_sizes r₁ r₂ r₃ v _ _ _ (n + m) (n + m + m) (n + m + m + m) (n + m + m + m + m) (omega arith) (omega arith) (omega arith) size refl refl refl k₁ k₂ k₃).fourth-is
+      (four_sizes r₁ r₂ r₃ v _ _ _ (n + m) (n + m + m) (n + m + m + m) (n + m + m + m + m) (omega arith) (omega arith) (omega arith) size refl refl refl k₁ k₂ k₃).fourth_is
       ∙ (let q : n + m + m + m + m - (n + m + m + m) ≡ m = omega arith in q)
 
   four_laid : (r₄ : List ℕ) → length r₁ ≡ n + m → length r₂ ≡ m → length r₃ ≡ m → length r₄ ≡ m

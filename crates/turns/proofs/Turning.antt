@@ -23,7 +23,7 @@ use Rattle.forms.specs.Room.{circuit_length}
 use Rattle.forms.proofs.Sampling.{Index, expand_index_index}
 use Rattle.parties.specs.Parties.{Share, parties, corrected}
 use Rattle.parties.specs.Repetition.{hidden_party, first, second, raw_share, known_shares, given_at, left_out, all_coms, all_alphas, all_vs}
-use Rattle.parties.proofs.Hidden.{parties-left_out}
+use Rattle.parties.proofs.LeftOut.{parties-left_out}
 use Rattle.views.proofs.Absorbing.{absorbed_known}
 use Rattle.group.specs.declared.Rep.{Rep}
 use Rattle.group.specs.Shares.{delta_s, delta_c, epsilon, target, alpha_given}
