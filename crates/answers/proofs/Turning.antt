@@ -153,8 +153,8 @@ pub folded_sums : (m : ℕ) (sa sy₀ sy sw alpha₀ alpha given₀ given : List
     → Folded m sa sy₀ sw alpha given
 unfolding EachWord Multiplied MultipliedWord lane_sum
 folded_sums m sa sy₀ sy sw alpha₀ alpha given₀ given la ly l₁ l₂ ea em eg = record {
-  alpha-sum = λ k h. ea k (omega arith);
-  given-sum = λ k h.
+  alpha_sum = λ k h. ea k (omega arith);
+  given_sum = λ k h.
       eg k (omega arith)
       ∙ sum_same 16 (λ q. lane q (sy ! k)) (λ q. bit_xor (mul (lane q (sy₀ ! k)) (alpha ! k)) (lane q (sw ! k))) (λ q hq. em k (omega arith) q hq)
       ∙ sum-xor 16 (λ q. mul (lane q (sy₀ ! k)) (alpha ! k)) (λ q. lane q (sw ! k))

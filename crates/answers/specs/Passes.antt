@@ -115,5 +115,5 @@ pub record VsOf (rep : Rep) (alpha given : List ℕ) (ys ws vs : List (List ℕ)
 
 -- the sum of all α, and the hidden v: the sum of all others
 pub record Folded (m : ℕ) (sa sy sw alpha given : List ℕ) : Type 0 where
-  pub alpha-sum : (k : ℕ) → k < m → alpha ! k ≡ lane_sum (sa ! k)
-  pub given-sum : (k : ℕ) → k < m → given ! k ≡ bit_xor (mul (lane_sum (sy ! k)) (lane_sum (sa ! k))) (lane_sum (sw ! k))
+  pub alpha_sum : (k : ℕ) → k < m → alpha ! k ≡ lane_sum (sa ! k)
+  pub given_sum : (k : ℕ) → k < m → given ! k ≡ bit_xor (mul (lane_sum (sy ! k)) (lane_sum (sa ! k))) (lane_sum (sw ! k))

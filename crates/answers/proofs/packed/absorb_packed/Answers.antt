@@ -8,5 +8,5 @@ use Rattle.answers.proofs.packed.absorb_packed.Goals as goal
 
 pub returns : goal.returns
 returns c =
-    absorbed_packed _ _ c.args.words.now _ c.pack_parties.new.out _ refl c.pack_parties.ensures (λ i. omega (arith, c.slice-known2.given i))
+    absorbed_packed _ _ c.args.words.now _ c.pack_parties.new.out _ refl c.pack_parties.ensures (λ i. omega (arith, c.slice_known-2-1.given i))
     (let a = c.requires.1 in let b = c.requires.2 in let k = c.pack_parties.auto.out in omega arith) c.absorb.ensures
