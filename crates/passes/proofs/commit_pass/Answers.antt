@@ -45,4 +45,4 @@ returns c =
     let b = i.0 in
     let t = c.loop-done-test.false in
     let e : l.done ≡ c.args.p.tau = omega arith in
-    let o = s.requires.0.«repeated» in record { absorbs = committed_all _ _ _ _ _ _ _ _ _ _ e o i.3; writes = corrections_all _ _ _ _ _ _ _ _ _ _ e i.3; plants = planted_all _ _ _ _ _ _ _ _ _ _ e o i.3 }
+    let o = c.requires.0.«repeated» in record { absorbs = committed_all _ _ _ _ _ _ _ _ _ _ e o i.3; writes = corrections_all _ _ _ _ _ _ _ _ _ _ e i.3; plants = planted_all _ _ _ _ _ _ _ _ _ _ e o i.3 }

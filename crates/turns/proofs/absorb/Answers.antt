@@ -6,4 +6,4 @@ use Rattle.turns.proofs.absorb.Goals as goal
 pub returns : goal.returns
 returns c =
     let one = c.absorb_first-first.ensures in
-    let two = c.absorb_second-second.ensures in record { turned = λ key is v l h. record { first = one key is v l; second = two.0 key is v l h }; left = two.1 }
+    let two = c.absorb_second-second.ensures in record { turned = λ key is v l h. record { first = one key is v l; second = two.answered key is v l h }; left = two.left }

@@ -42,4 +42,4 @@ returns c =
     let w = c.rebuild.ensures key is in
     let z = length_of_leaves p c.requires.0 key x c.requires.4 c.args.e c.requires.1 c.requires.2 in
     let end = c.absorb.ensures in
-    let circuit = put-circuit p c.args.work.now _ _ c.requires.7 z w in record { turned = end.0 key is v (put-leaves p c.args.work.now _ _ c.requires.7 z w) (subst (HoldsCircuit p.n p.m (f p key)) (sym circuit) all.circuit); left = answered-same is v w end.1 }
+    let circuit = put-circuit p c.args.work.now _ _ c.requires.7 z w in record { turned = end.turned key is v (put-leaves p c.args.work.now _ _ c.requires.7 z w) (subst (HoldsCircuit p.n p.m (f p key)) (sym circuit) all.circuit); left = answered-same is v w end.left }

@@ -56,4 +56,4 @@ returns c =
     let other = c.hidden_party-other.ensures ∙ all.hidden (e + 1) from c.requires.3 in
     let v = values_are p pk x (challenges_part p w) e _ c.read_values.ensures (all.challenge e c.requires.2 within) in
     let more = values_are p pk x (challenges_part p w) (e + 1) _ c.read_values-2.ensures (all.challenge (e + 1) from c.requires.3) in
-    let end = c.absorb_two.ensures in record { turned = end.0 key is other v more all.circuit; left = end.1 key is other }
+    let end = c.absorb_two.ensures in record { turned = end.turned key is other v more all.circuit; left = end.rebuilt key is other }
