@@ -35,7 +35,7 @@ module _ (P : Params) (signer : Signer) (msg salt secret packing work : List ℕ
     (e : ℕ) (from : 1 ≤ e) (to : e ≤ P.tau) where
   length-delta_s : length (sign.delta_s P signer e) ≡ P.n
   unfolding sign.delta_s s_in
-  length-delta_s = corrections.length-deltaS P signer.salt e signer.key.s (sign.seeds P signer e) (ap length challenged.held.s ∙ length-take-le P.n secret (omega arith))
+  length-delta_s = corrections.length-delta_s P signer.salt e signer.key.s (sign.seeds P signer e) (ap length challenged.held.s ∙ length-take-le P.n secret (omega arith))
 
   -- the corrections of the packing
   read_corrections : elements_at packing ((e - 1) * (P.n + P.m)) (P.n + P.m) ≡ sign.delta_s P signer e ++ sign.delta_c P signer e

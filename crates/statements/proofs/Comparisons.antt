@@ -37,10 +37,10 @@ pub record Siblings (h : ℕ) (ps : List ℕ) : Type 0 where
 -- the totals over the parties of x, y, z, a and c at equation k
 pub record TotalsAt (k : ℕ) (f : Circuit) (t : List ℕ) (ps : List Share) (x y z a c : ℕ) : Type 0 where
   pub x_total : total (parties (x_of f) ps) ! k ≡ x
-  pub y-total : total (parties (y_of f) ps) ! k ≡ y
+  pub y_total : total (parties (y_of f) ps) ! k ≡ y
   pub z_total : total (parties (z_of f t) ps) ! k ≡ z
-  pub a-total : mask ps ! k ≡ a
-  pub c-total : helper ps ! k ≡ c
+  pub a_total : mask ps ! k ≡ a
+  pub c_total : helper ps ! k ≡ c
 
 -- ---- the table
 
@@ -122,6 +122,6 @@ two_parties c = record { s = 0 ∷ []; a = 3 ∷ []; c = c ∷ [] } ∷ record {
 totals_met : TotalsAt 0 (one_equation 1) (0 ∷ []) (two_parties 8) 2 9 1 3 8 × TotalsAt 0 (one_equation 0) (0 ∷ []) (two_parties 13) 2 9 0 3 13
 unfolding one_equation constant two_parties parties numbered x_of y_of z_of forms_of affine linear mask helper total dot ◌⊕◌ mul polynomial_product coefficient without modulus
 totals_met = (
-  record { x_total = refl; y-total = refl; z_total = refl; a-total = refl; c-total = refl },
-  record { x_total = refl; y-total = refl; z_total = refl; a-total = refl; c-total = refl },
+  record { x_total = refl; y_total = refl; z_total = refl; a_total = refl; c_total = refl },
+  record { x_total = refl; y_total = refl; z_total = refl; a_total = refl; c_total = refl },
 )

@@ -6,4 +6,4 @@ use Rattle.calls.proofs.make_keys.Goals as goal
 pub returns-then-refused-ne-DONE : goal.returns-then-refused-ne-DONE
 returns-then-refused-ne-DONE c =
     let a = c.args in
-    make_keys_refused a.set a.circuit-seed.now a.secret-seed.now a.secret-key.now a.public-key.now a.work.now _ c.make_keys_sizes-refused.ensures c.if-refused-ne-DONE.true
+    make_keys_refused a.set a.circuit_seed.now a.secret_seed.now a.secret_key.now a.public_key.now a.work.now _ c.make_keys_sizes-refused.ensures c.if-refused-ne-DONE.true

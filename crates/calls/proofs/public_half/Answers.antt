@@ -6,4 +6,4 @@ use Rattle.calls.proofs.public_half.Goals as goal
 pub returns-then-refused-ne-DONE : goal.returns-then-refused-ne-DONE
 returns-then-refused-ne-DONE c =
     let a = c.args in
-    public_half_refused a.set a.secret-key.now a.public-key.now a.work.now _ c.public_half_sizes-refused.ensures c.if-refused-ne-DONE.true
+    public_half_refused a.set a.secret_key.now a.public_key.now a.work.now _ c.public_half_sizes-refused.ensures c.if-refused-ne-DONE.true

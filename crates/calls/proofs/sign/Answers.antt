@@ -6,4 +6,4 @@ use Rattle.calls.proofs.sign.Goals as goal
 pub returns-then-refused-ne-DONE : goal.returns-then-refused-ne-DONE
 returns-then-refused-ne-DONE c =
     let a = c.args in
-    sign_refused a.set a.secret-key.now a.message.now a.random.now a.signature.now a.work.now _ c.sign_sizes-refused.ensures c.if-refused-ne-DONE.true
+    sign_refused a.set a.secret_key.now a.message.now a.random.now a.signature.now a.work.now _ c.sign_sizes-refused.ensures c.if-refused-ne-DONE.true

@@ -6,4 +6,4 @@ use Rattle.calls.proofs.verify.Goals as goal
 pub returns-then-refused-ne-DONE : goal.returns-then-refused-ne-DONE
 returns-then-refused-ne-DONE c =
     let a = c.args in
-    verify_refused a.set a.public-key.now a.message.now a.signature.now a.work.now _ c.verify_sizes-refused.ensures c.if-refused-ne-DONE.true
+    verify_refused a.set a.public_key.now a.message.now a.signature.now a.work.now _ c.verify_sizes-refused.ensures c.if-refused-ne-DONE.true

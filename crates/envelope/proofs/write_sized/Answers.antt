@@ -11,7 +11,7 @@ use Rattle.envelope.proofs.write_sized.Goals as goal
 pub overflow_add-behind : goal.overflow_add-behind
 overflow_add-behind c =
     let a = c.args in
-    let r = write_right a.set (length a.public-key.now) (length a.signature.now) (length a.message.now) (length a.envelope.now) c.requires in
+    let r = write_right a.set (length a.public_key.now) (length a.signature.now) (length a.message.now) (length a.envelope.now) c.requires in
     let p = r.public_key in
     let q = r.signature in
     let m = r.room in
@@ -20,7 +20,7 @@ overflow_add-behind c =
 pub overflow_add-end : goal.overflow_add-end
 overflow_add-end c =
     let a = c.args in
-    let r = write_right a.set (length a.public-key.now) (length a.signature.now) (length a.message.now) (length a.envelope.now) c.requires in
+    let r = write_right a.set (length a.public_key.now) (length a.signature.now) (length a.message.now) (length a.envelope.now) c.requires in
     let p = r.public_key in
     let q = r.signature in
     let m = r.room in
@@ -29,7 +29,7 @@ overflow_add-end c =
 pub slice_bounds-copy-end-2 : goal.slice_bounds-copy-end-2
 slice_bounds-copy-end-2 c =
     let a = c.args in
-    let r = write_right a.set (length a.public-key.now) (length a.signature.now) (length a.message.now) (length a.envelope.now) c.requires in
+    let r = write_right a.set (length a.public_key.now) (length a.signature.now) (length a.message.now) (length a.envelope.now) c.requires in
     let p = r.public_key in
     let q = r.signature in
     let m = r.room in
@@ -38,7 +38,7 @@ slice_bounds-copy-end-2 c =
 pub slice_bounds-copy-end-3 : goal.slice_bounds-copy-end-3
 slice_bounds-copy-end-3 c =
     let a = c.args in
-    let r = write_right a.set (length a.public-key.now) (length a.signature.now) (length a.message.now) (length a.envelope.now) c.requires in
+    let r = write_right a.set (length a.public_key.now) (length a.signature.now) (length a.message.now) (length a.envelope.now) c.requires in
     let p = r.public_key in
     let q = r.signature in
     let m = r.room in
@@ -47,7 +47,7 @@ slice_bounds-copy-end-3 c =
 pub slice_bounds-copy-end-4 : goal.slice_bounds-copy-end-4
 slice_bounds-copy-end-4 c =
     let a = c.args in
-    let r = write_right a.set (length a.public-key.now) (length a.signature.now) (length a.message.now) (length a.envelope.now) c.requires in
+    let r = write_right a.set (length a.public_key.now) (length a.signature.now) (length a.message.now) (length a.envelope.now) c.requires in
     let p = r.public_key in
     let q = r.signature in
     let m = r.room in
@@ -56,7 +56,7 @@ slice_bounds-copy-end-4 c =
 pub slice_bounds-copy-end-5 : goal.slice_bounds-copy-end-5
 slice_bounds-copy-end-5 c =
     let a = c.args in
-    let r = write_right a.set (length a.public-key.now) (length a.signature.now) (length a.message.now) (length a.envelope.now) c.requires in
+    let r = write_right a.set (length a.public_key.now) (length a.signature.now) (length a.message.now) (length a.envelope.now) c.requires in
     let p = r.public_key in
     let q = r.signature in
     let m = r.room in
@@ -65,11 +65,11 @@ slice_bounds-copy-end-5 c =
 pub returns : goal.returns
 returns c =
     let a = c.args in
-    let r = write_right a.set (length a.public-key.now) (length a.signature.now) (length a.message.now) (length a.envelope.now) c.requires in
+    let r = write_right a.set (length a.public_key.now) (length a.signature.now) (length a.message.now) (length a.envelope.now) c.requires in
     let p = r.public_key in
     let q = r.signature in
     let m = r.room in
-    four_parts a.set a.envelope.now c.header_bytes-first.result a.public-key.now a.signature.now a.message.now
+    four_parts a.set a.envelope.now c.header_bytes-first.result a.public_key.now a.signature.now a.message.now
     c.copy.new.dst c.copy-2.new.dst c.copy-3.new.dst c.copy-4.new.dst
     _ _ _
     (c.header_bytes-first.ensures ∙ ap header_bytes c.head.ensures) refl refl refl (omega arith)

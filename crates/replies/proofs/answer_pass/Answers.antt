@@ -61,7 +61,7 @@ returns-then-done-tau c =
     let t = c.if-done-tau.true in
     let b = c.loop-done-test.false in
     let e : l.done + 1 ≡ c.args.p.tau = omega arith in
-    let u = c.answer_turn in record { absorbs = answered_all _ _ _ _ _ _ _ _ e s.requires.0.«repeated»
+    let u = c.answer_turn in record { absorbs = answered_all _ _ _ _ _ _ _ _ e c.requires.0.«repeated»
           (answering_more c.args.p c.args.salt.now c.args.secret.now c.args.packing.now c.args.work.now l.work i.2 l.done _ _ _ i.3 u.ensures.absorbs); keeps = kept_more _ _ _ _ i.2 u.ensures.keeps }
 
 pub returns : goal.returns
@@ -70,4 +70,4 @@ returns c =
     let i = l.invariant in
     let b = i.0 in
     let t = c.if-done-tau.false in
-    let e : l.done ≡ c.args.p.tau = omega arith in record { absorbs = answered_all _ _ _ _ _ _ _ _ e s.requires.0.«repeated» i.3; keeps = i.2 }
+    let e : l.done ≡ c.args.p.tau = omega arith in record { absorbs = answered_all _ _ _ _ _ _ _ _ e c.requires.0.«repeated» i.3; keeps = i.2 }

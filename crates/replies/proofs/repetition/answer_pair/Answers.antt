@@ -12,7 +12,7 @@ pub answer_two-requires : goal.answer_two-requires
 answer_two-requires c = let h = c.requires in (h.0, sym c.groups_of-groups.ensures ∙ c.if-groups-eq1.true, h.1, h.2, h.3, h.4, h.5, h.6, h.7)
 
 pub returns-then-groups-eq1 : goal.returns-then-groups-eq1
-returns-then-groups-eq1 c = let done = c.answer_two.ensures in record { absorbs = done.0; keeps = done.1 }
+returns-then-groups-eq1 c = let done = c.answer_two.ensures in record { absorbs = done.absorbs; keeps = done.keeps }
 
 pub answer_turn-first-requires : goal.answer_turn-first-requires
 answer_turn-first-requires c = let h = c.requires in let t = h.2 in (h.0, h.1, omega arith, h.3, h.4, h.5, h.6, h.7)
@@ -26,4 +26,4 @@ answer_turn-requires c = let h = c.requires in let t = h.2 in (h.0, omega arith,
 pub returns : goal.returns
 returns c =
     let a = c.answer_turn-first.ensures in
-    let b = c.answer_turn.ensures in record { absorbs = answered_after c.args.p _ _ c.args.salt.now c.args.secret.now c.args.packing.now c.args.work.now _ _ _ _ a.1 a.0 b.0; keeps = kept_more _ _ _ _ a.1 b.1 }
+    let b = c.answer_turn.ensures in record { absorbs = answered_after c.args.p _ _ c.args.salt.now c.args.secret.now c.args.packing.now c.args.work.now _ _ _ _ a.keeps a.absorbs b.absorbs; keeps = kept_more _ _ _ _ a.keeps b.keeps }

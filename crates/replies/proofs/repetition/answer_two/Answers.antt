@@ -53,4 +53,4 @@ answer_two_in-requires c =
     (h.0, h.1, h.2, h.3, h.4, h.5, h.6, h.7, zeros_sized 602 _ (omega arith), zeros_sized 602 _ (omega arith), sixteen-leaves c.args.p _ h.1 (zeros_sized 512 _ (omega arith)), h.8)
 
 pub returns : goal.returns
-returns c = let done = c.answer_two_in.ensures in record { absorbs = done.0; keeps = done.1 }
+returns c = let done = c.answer_two_in.ensures in record { absorbs = done.absorbs; keeps = done.keeps }
