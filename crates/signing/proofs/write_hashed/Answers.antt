@@ -28,15 +28,15 @@ commit-requires c =
 pub open-requires : goal.open-requires
 open-requires c =
     let pre = c.requires in
-    let k = c.commit.auto.1.1.1.1 in (
+    let k = c.commit.auto in (
       pre.0,
       pre.1,
       pre.2,
       pre.3,
-      k.0 ∙ pre.4,
-      k.1.0 ∙ pre.5,
-      packed_size c.args.p c.args.signature.now pre.6 _ _ c.packing_at-a.ensures refl c.commit.new.packing k.1.1.0,
-      k.1.1.1.0 ∙ pre.7,
+      k.h1 ∙ pre.4,
+      k.h2 ∙ pre.5,
+      packed_size c.args.p c.args.signature.now pre.6 _ _ c.packing_at-a.ensures refl c.commit.new.packing k.packing,
+      k.work ∙ pre.7,
     )
 
 pub returns : goal.returns

@@ -40,13 +40,13 @@ write_drawn-requires c =
     let a = c.args in
     let pre = c.requires in
     let d = c.draw in
-    let k = d.auto.1.1.1.1 in (
+    let k = d.auto in (
       pre.0,
       pre.1,
       pre.2,
-      k.0 ∙ pre.3,
+      k.salt ∙ pre.3,
       pre.4,
-      back_size a.p pre.0 a.work.now pre.5 _ _ m.roots m.challenges d.new.roots (k.1.0 ∙ taken_size a.p pre.0 a.work.now pre.5 _ _ m.roots m.challenges),
+      back_size a.p pre.0 a.work.now pre.5 _ _ m.roots m.challenges d.new.roots (k.roots ∙ taken_size a.p pre.0 a.work.now pre.5 _ _ m.roots m.challenges),
     )
 
 pub returns : goal.returns
@@ -55,10 +55,10 @@ returns c =
     let a = c.args in
     let pre = c.requires in
     let d = c.draw in
-    let k = d.auto.1.1.1.1 in
+    let k = d.auto in
     let w = c.write_drawn.ensures in
     λ holds circuit.
     w (signer_of a.p a.sk.now a.random.now a.message.now)
-    (signer_drawn a.p pre.0 a.sk.now a.random.now a.message.now a.work.now pre.5 _ _ m.roots m.challenges _ d.ensures.1 k.1.0
+    (signer_drawn a.p pre.0 a.sk.now a.random.now a.message.now a.work.now pre.5 _ _ m.roots m.challenges _ d.ensures.1 k.roots
     _ a.secret.now d.ensures.0 holds circuit)
     ∙ signature-signed a.p a.sk.now a.random.now a.message.now

@@ -126,8 +126,8 @@ alpha_pass-requires c =
       pre.3,
       pre.1,
       omega arith,
-      packing_sized p pre.0 x w salt secret hidden _ _ _ _ _ _ _ pre.5 pre.6 (head_at p) b refl m.roots m.challenges sh.0 sh.1,
-      work-sized p pre.0 x w salt secret hidden _ _ _ _ _ _ _ pre.5 pre.6 (head_at p) b refl m.roots m.challenges sh.0 sh.1,
+      packing_sized p pre.0 x w salt secret hidden _ _ _ _ _ _ _ pre.5 pre.6 (head_at p) b refl m.roots m.challenges sh.shown sh.leaves,
+      work-sized p pre.0 x w salt secret hidden _ _ _ _ _ _ _ pre.5 pre.6 (head_at p) b refl m.roots m.challenges sh.shown sh.leaves,
     )
 
 pub returns : goal.returns
@@ -143,5 +143,5 @@ returns c =
     let secret = c.args.secret.now in
     let hidden = c.args.hidden.now in
     let al = c.alpha_pass in
-    opened p pre.0 x w salt secret hidden _ _ _ _ _ _ _ pre.5 pre.6 (head_at p) b refl m.roots m.challenges sh.0 sh.1
+    opened p pre.0 x w salt secret hidden _ _ _ _ _ _ _ pre.5 pre.6 (head_at p) b refl m.roots m.challenges sh.shown sh.leaves
     pre.1 _ al.auto.packing al.ensures (λ i. let byte = c.type_inv.signature i in omega arith)
