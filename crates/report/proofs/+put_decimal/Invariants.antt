@@ -1,0 +1,5 @@
+-- The measure of `report::put_decimal`: the number, which falls to its tenth. Assumes nothing.
+use Rattle.report.proofs.+put_decimal.Given as goal
+
+abbrev pub decreases-put_decimal : goal.decreases-put_decimal
+decreases-put_decimal l = l.n
