@@ -10,7 +10,7 @@ use Rattle.forms.specs.Circuit.{Circuit}
 use Rattle.forms.specs.Room.{circuit_length, HoldsCircuit}
 use Rattle.group.specs.declared.Rep.{Rep}
 use Rattle.group.specs.Shares.{values_length}
-use Rattle.biscuit.specs.Room.{Fits, groups, leaves_at, room_at, roots_at, room_end}
+use Rattle.biscuit.specs.Room.{Fits, leaves_at, room_at, roots_at, room_end}
 use Rattle.biscuit.proofs.Parts.{length-first}
 use Rattle.biscuit.proofs.Room.{mapped}
 use Rattle.reps.specs.Reps.{rep_of}

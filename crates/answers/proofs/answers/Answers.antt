@@ -5,7 +5,6 @@ use Rattle.answers.specs.Passes.{circuit_of, leaves_of}
 use Rattle.answers.proofs.Values.{sums_passed, vs_of_lem, all_answers}
 use Rattle.answers.proofs.Turning.{zeros_sized, zeros_part, lent_same, lent-sized, lent_fits, folded_same}
 use Rattle.answers.proofs.Work.{room-sized, room-held}
-use borrow.Author.Rules.{rules}
 use Rattle.answers.proofs.answers.Goals as goal
 
 pub first_pass-first-requires : goal.first_pass-first-requires
@@ -39,9 +38,13 @@ returns c =
     let f = c.first_pass-first in
     let r = c.args.rep in
     let w = c.args.work.now in
-    let v = c.args.values.now in record { absorbs = (λ P h en em ec.
+    let v = c.args.values.now in record {
+      absorbs = (λ P h en em ec.
           all_answers r (circuit_of r w) c.args.salt.now (leaves_of r w) v c.requires.3 c.requires.1 _ _ _ f.ensures.absorbs
           (c.finish.ensures _ _ _
           (λ alpha given d. vs_of_lem r (circuit_of r w) c.args.salt.now (leaves_of r w) v c.requires.3 c.requires.1 alpha given _ _ _ (sums_passed r (circuit_of r w) c.args.salt.now (leaves_of r w) v c.requires.3 c.requires.1 _ _ _ _ f.ensures.keeps)
           (folded_same _ _ _ _ _ _ _ _ _ _ refl (lent_same 121 c.args.rep.m f.new.sa c.requires.0.equations f.auto.sa) (lent_same 121 c.args.rep.m f.new.sy c.requires.0.equations f.auto.sy) (lent_same 121 c.args.rep.m f.new.sw c.requires.0.equations f.auto.sw) d))
-          (room-held r f.new.work _ _ c.room_at-a.ensures (sym f.auto.work) _ _ f.ensures.keeps.kept)) P h en em ec); kept = f.ensures.kept; room = f.ensures.keeps.kept }
+          (room-held r f.new.work _ _ c.room_at-a.ensures (sym f.auto.work) _ _ f.ensures.keeps.kept)) P h en em ec);
+      kept = f.ensures.kept;
+      room = f.ensures.keeps.kept;
+    }

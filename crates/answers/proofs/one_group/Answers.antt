@@ -10,7 +10,6 @@ use Rattle.marks.proofs.Marks.{mark_flags}
 use Rattle.answers.proofs.Turning.{zeros_sized, lent_same, lent-sized, lent_fits, folded_same, folded_elements}
 use Rattle.answers.proofs.Values.{all_answers}
 use Rattle.answers.proofs.OneGroup.{some_group, alphas_packed, vs_packed}
-use borrow.Author.Rules.{rules}
 use Rattle.answers.proofs.one_group.Goals as goal
 
 pub absorb_group-first-requires : goal.absorb_group-first-requires

@@ -6,7 +6,6 @@ use Rattle.sponge.specs.Steps.{absorbed}
 use Rattle.answers.specs.Answers.{shares_of, answered}
 use Rattle.answers.proofs.Turning.{zeros_sized, lent_same, lent-sized, lent_fits, answers_same}
 use Rattle.answers.proofs.OneGroup.{some_group, circuit_for}
-use borrow.Author.Rules.{rules}
 use Rattle.answers.proofs.two_repetitions.Goals as goal
 
 pub slice_bounds-x-end : goal.slice_bounds-x-end

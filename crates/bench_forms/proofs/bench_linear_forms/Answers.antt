@@ -2,7 +2,6 @@
 use mathlib.Core.Path.{refl, sym, ◌∙◌}
 use native.Mathlib.Omega.{arith}
 use Rattle.bench_forms.specs.Fit.{FormsFit}
-use borrow.Author.Rules.{rules}
 use Rattle.bench_forms.proofs.bench_linear_forms.Goals as goal
 
 pub returns-then-n-gt118 : goal.returns-then-n-gt118

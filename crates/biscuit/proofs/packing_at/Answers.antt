@@ -4,7 +4,6 @@ use native.Mathlib.Omega.{arith}
 use Rattle.sets.specs.Sets.{S}
 use Rattle.biscuit.specs.Signature.{head_length, shown_length, packing_at}
 use Rattle.biscuit.proofs.Sizes.{shown_small, all_shown_small}
-use borrow.Author.Rules.{rules}
 use Rattle.biscuit.proofs.packing_at.Goals as goal
 
 pub overflow_mul-result-2 : goal.overflow_mul-result-2

@@ -1,5 +1,4 @@
 -- `calls::clear_work` meets its contract. Assumes nothing.
-use borrow.Author.Rules.{rules}
 use Rattle.calls.proofs.Lending.{work-cleared}
 use Rattle.calls.proofs.clear_work.Goals as goal
 

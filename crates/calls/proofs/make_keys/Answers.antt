@@ -1,5 +1,4 @@
 -- `calls::make_keys` meets its contract: what the sizes refuse changes nothing. Assumes nothing.
-use borrow.Author.Rules.{rules}
 use Rattle.biscuit.proofs.Outcomes.{make_keys_refused}
 use Rattle.calls.proofs.make_keys.Goals as goal
 

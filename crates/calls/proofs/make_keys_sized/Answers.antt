@@ -4,7 +4,6 @@ use mathlib.Core.Path.{ap, ◌∙◌}
 use Prim.Native.Nat.{ℕ}
 use native.Mathlib.Omega.{arith}
 use lib.ListN.{length}
-use borrow.Author.Rules.{rules}
 use Rattle.memory.specs.Lists.{over}
 use Rattle.refusals.proofs.Refusals.{make_keys_right}
 use Rattle.calls.proofs.Ended.{make_keys_asked, make_keys_ended_lem}

@@ -1,5 +1,4 @@
 -- `calls::public_half` meets its contract: what the sizes refuse changes nothing. Assumes nothing.
-use borrow.Author.Rules.{rules}
 use Rattle.biscuit.proofs.Outcomes.{public_half_refused}
 use Rattle.calls.proofs.public_half.Goals as goal
 

@@ -3,7 +3,6 @@ use mathlib.Core.Bool.{true, false}
 use mathlib.Core.Path.{sym, ◌∙◌}
 use native.Mathlib.Omega.{arith}
 use lib.ListN.{length}
-use borrow.Author.Rules.{rules}
 use Rattle.refusals.proofs.Refusals.{public_half_right}
 use Rattle.biscuit.specs.Keys.{consistent_key, public_half}
 use Rattle.calls.proofs.Ended.{public_half_asked, public_half_ended_lem}

@@ -1,6 +1,5 @@
 -- `calls::sign` meets its contract: what the sizes refuse changes nothing. Assumes nothing.
 use Rattle.biscuit.proofs.Outcomes.{sign_refused}
-use borrow.Author.Rules.{rules}
 use Rattle.calls.proofs.sign.Goals as goal
 
 pub returns-then-refused-ne-DONE : goal.returns-then-refused-ne-DONE

@@ -8,7 +8,6 @@ use Rattle.biscuit.specs.Keys.{consistent_key}
 use Rattle.biscuit.specs.Sign.{signature}
 use Rattle.calls.proofs.Ended.{sign_asked, sign_ended_lem}
 use Rattle.calls.proofs.Lending.{lent-answered, work_long, cleared-lent}
-use borrow.Author.Rules.{rules}
 use Rattle.calls.proofs.sign_sized.Goals as goal
 
 pub slice_bounds-sign-end : goal.slice_bounds-sign-end

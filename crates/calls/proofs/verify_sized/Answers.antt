@@ -6,7 +6,6 @@ use lib.ListN.{length}
 use Rattle.refusals.proofs.Refusals.{verify_right}
 use Rattle.calls.proofs.Ended.{verify_asked, verify_ended_lem}
 use Rattle.calls.proofs.Lending.{work_long, cleared-lent}
-use borrow.Author.Rules.{rules}
 use Rattle.calls.proofs.verify_sized.Goals as goal
 
 pub slice_bounds-accepts-end : goal.slice_bounds-accepts-end

@@ -1,5 +1,4 @@
 -- `envelope::header_number` meets its contract: each answer is read off the tests that led to it. Assumes nothing.
-use borrow.Author.Rules.{rules}
 use mathlib.Core.Path.{refl, ap}
 use Rattle.refusals.proofs.Sizes.{differ, agree, tested}
 use Rattle.envelope.specs.declared.Places.{Places}

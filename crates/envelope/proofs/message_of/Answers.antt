@@ -1,5 +1,4 @@
 -- `envelope::message_of` meets its contract: the message lies between its place and the end. Assumes nothing.
-use borrow.Author.Rules.{rules}
 use mathlib.Core.Path.{ap}
 use native.Mathlib.Omega.{arith}
 use Rattle.envelope.specs.declared.Places.{Places}

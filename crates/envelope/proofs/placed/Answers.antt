@@ -1,5 +1,4 @@
 -- `envelope::placed` meets its contract: keys and signatures are small, so no sum wraps. Assumes nothing.
-use borrow.Author.Rules.{rules}
 use mathlib.Core.Path.{ap₂}
 use Prim.Native.Nat.{ℕ, ◌+◌}
 use native.Mathlib.Omega.{arith}

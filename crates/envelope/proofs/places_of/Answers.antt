@@ -1,5 +1,4 @@
 -- `envelope::places_of` meets its contract: the places behind the header that reading gave. Assumes nothing.
-use borrow.Author.Rules.{rules}
 use mathlib.Core.Path.{sym, ap, ◌∙◌}
 use native.Mathlib.Omega.{arith}
 use Rattle.envelope.specs.declared.Header.{Header}

@@ -1,5 +1,4 @@
 -- `envelope::public_key_of` meets its contract: the key lies between its place and the signature's. Assumes nothing.
-use borrow.Author.Rules.{rules}
 use mathlib.Core.Path.{ap}
 use native.Mathlib.Omega.{arith}
 use Rattle.envelope.specs.declared.Places.{Places}

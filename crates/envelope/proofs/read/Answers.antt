@@ -1,5 +1,4 @@
 -- `envelope::read` meets its contract: an envelope of three bytes or more has the number of its header and length. Assumes nothing.
-use borrow.Author.Rules.{rules}
 use mathlib.Core.Path.{sym, ap, ◌∙◌}
 use native.Mathlib.Omega.{arith}
 use lib.ListN.{length}

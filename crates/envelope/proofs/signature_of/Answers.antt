@@ -1,5 +1,4 @@
 -- `envelope::signature_of` meets its contract: the signature lies between its place and the message's. Assumes nothing.
-use borrow.Author.Rules.{rules}
 use mathlib.Core.Path.{ap}
 use native.Mathlib.Omega.{arith}
 use Rattle.envelope.specs.declared.Places.{Places}

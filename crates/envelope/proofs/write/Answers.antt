@@ -1,5 +1,4 @@
 -- `envelope::write` meets its contract: what the sizes refuse changes nothing. Assumes nothing.
-use borrow.Author.Rules.{rules}
 use mathlib.Core.Path.{sym, ◌∙◌}
 use Rattle.envelope.proofs.Outcomes.{write_refused, write_done}
 use Rattle.envelope.proofs.write.Goals as goal

@@ -1,5 +1,4 @@
 -- `envelope::write_sized` meets its contract: each part is put behind the one before. Assumes nothing.
-use borrow.Author.Rules.{rules}
 use native.Mathlib.Omega.{arith}
 use lib.ListN.{length}
 use mathlib.Core.Path.{refl, ap, ◌∙◌}

@@ -1,5 +1,4 @@
 -- `envelope::write_sizes` meets its contract: each answer is read off the tests that led to it. Assumes nothing.
-use borrow.Author.Rules.{rules}
 use mathlib.Core.Path.{ap, ◌∙◌}
 use native.Mathlib.Omega.{arith}
 use Rattle.refusals.proofs.Sizes.{differ, agree, short, enough, tested}

@@ -4,7 +4,6 @@ use mathlib.Core.Path.{sym}
 use Prim.Native.Nat.{◌/◌}
 use native.Mathlib.Omega.{arith}
 use Rattle.field.proofs.Packing.{low_of, high_of, nib_past, nib_low, nib_high}
-use borrow.Author.Rules.{rules}
 use Rattle.field.proofs.element.Goals as goal
 
 pub returns-then-bytes-i : goal.returns-then-bytes-i

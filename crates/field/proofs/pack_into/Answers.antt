@@ -1,11 +1,10 @@
 -- `field::pack_into` meets its contract. The invariant: the first i bytes of `out` are those of the packing, and the others are as they were.
 -- Assumes nothing.
-use mathlib.Core.Path.{◌≡◌, ap₂, ◌∙◌}
-use mathlib.Core.List.{List, ◌++◌}
-use Prim.Native.Nat.{ℕ, ◌≤◌, ◌-◌, min}
+use mathlib.Core.Path.{ap₂, ◌∙◌}
+use mathlib.Core.List.{List}
+use Prim.Native.Nat.{ℕ}
 use native.Mathlib.Omega.{arith}
-use lib.ListN.{length, set, take, drop, length-set}
-use borrow.Author.Rules.{rules}
+use lib.ListN.{set, length-set}
 use Rattle.memory.proofs.Parts.{copied_more, copied_all}
 use Rattle.field.specs.Packing.{pack, packed_length}
 use Rattle.field.proofs.Packing.{length-pack}

@@ -1,14 +1,10 @@
 -- `field::pack_into` meets its contract. The invariant: the first i bytes of `out` are those of the packing, and the others are as they were.
 -- Assumes nothing.
-use mathlib.Core.Path.{◌≡◌, ap₂, ◌∙◌}
-use mathlib.Core.List.{List, ◌++◌}
-use Prim.Native.Nat.{ℕ, ◌≤◌, ◌-◌, min}
-use native.Mathlib.Omega.{arith}
-use lib.ListN.{length, set, take, drop, length-set}
-use borrow.Author.Rules.{rules}
-use Rattle.memory.proofs.Parts.{copied_more, copied_all}
+use mathlib.Core.Path.{◌≡◌}
+use mathlib.Core.List.{◌++◌}
+use Prim.Native.Nat.{◌≤◌, ◌-◌, min}
+use lib.ListN.{length, take, drop}
 use Rattle.field.specs.Packing.{pack, packed_length}
-use Rattle.field.proofs.Packing.{length-pack}
 use Rattle.field.proofs.pack_into.Given as goal
 
 abbrev pub invariant-loop-i : goal.invariant-loop-i

@@ -4,7 +4,6 @@ use mathlib.Core.Path.{sym}
 use native.Mathlib.Omega.{arith}
 use lib.ListN.{get_or-eq_default}
 use Rattle.field.proofs.Packing.{byte_pack}
-use borrow.Author.Rules.{rules}
 use Rattle.field.proofs.packed.Goals as goal
 
 pub returns-then-i-elements : goal.returns-then-i-elements

@@ -1,6 +1,5 @@
 -- `field::product` meets its contract: the entry at 16 * a + b, by the low four bits of each, is the product that the table's rule says.
 -- Assumes nothing.
-use borrow.Author.Rules.{rules}
 use Rattle.field.proofs.product.Goals as goal
 
 pub returns : goal.returns

@@ -1,12 +1,11 @@
 -- `field::unpack_into` meets its contract. The invariant: the first i entries of `out` are the elements that the bytes hold, and the others are as they were.
 -- Assumes nothing.
-use mathlib.Core.Path.{◌≡◌, sym, ap₂, ◌∙◌}
+use mathlib.Core.Path.{sym, ap₂, ◌∙◌}
 use mathlib.Core.List.{List, ◌++◌, append-nil}
-use Prim.Native.Nat.{ℕ, ◌≤◌, ◌-◌}
+use Prim.Native.Nat.{ℕ}
 use native.Mathlib.Omega.{arith}
-use lib.ListN.{length, set, take, drop, length-set, drop_of_length-le}
+use lib.ListN.{length, set, length-set, drop_of_length-le}
 use lib.Seq.{take_all}
-use borrow.Author.Rules.{rules}
 use Rattle.memory.proofs.Parts.{copied_more}
 use Rattle.field.specs.Packing.{unpack}
 use Rattle.field.proofs.Packing.{length-unpack, get_or-unpack}

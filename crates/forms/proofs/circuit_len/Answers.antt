@@ -4,7 +4,6 @@ use Prim.Native.Nat.{ℕ, ◌+◌, ◌/◌, ◌%◌}
 use native.Mathlib.Nat.{mul-le-mul}
 use native.Mathlib.Omega.{arith}
 use Rattle.forms.proofs.Room.{affine_size, circuit_three}
-use borrow.Author.Rules.{rules}
 use Rattle.forms.proofs.circuit_len.Goals as goal
 
 pub overflow_mul-size : goal.overflow_mul-size

@@ -8,7 +8,6 @@ use Rattle.field.proofs.Packing.{half_up}
 use Rattle.forms.specs.Circuit.{affine_length}
 use Rattle.forms.proofs.Room.{rows_size, affine_size, affine_two, circuit_three}
 use Rattle.forms.proofs.Evaluated.{evaluated}
-use borrow.Author.Rules.{rules}
 use Rattle.forms.proofs.eval_circuit.Goals as goal
 
 pub overflow_mul-size : goal.overflow_mul-size

@@ -6,7 +6,6 @@ use native.Mathlib.Omega.{arith}
 use lib.Pow.{pow_pos}
 use Rattle.forms.specs.Room.{hidden_in}
 use Rattle.forms.proofs.Room.{shifted_one}
-use borrow.Author.Rules.{rules}
 use Rattle.forms.proofs.hidden_party.Goals as goal
 
 pub nonzero_rem-result : goal.nonzero_rem-result

@@ -5,7 +5,6 @@ use Rattle.sponge.specs.declared.Sponge.{Sponge}
 use Rattle.sponge.specs.declared.Tape.{Tape}
 use Rattle.sponge.specs.Steps.{absorbed, finished, given}
 use Rattle.sponge.proofs.Laws.{given-shake256}
-use borrow.Author.Rules.{rules}
 use Rattle.forms.proofs.tape_bytes.Goals as goal
 
 pub returns : goal.returns

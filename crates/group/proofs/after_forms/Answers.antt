@@ -7,7 +7,6 @@ use Rattle.memory.proofs.Xors.{length-sized}
 use Rattle.marks.proofs.Marks.{mark_flags}
 use Rattle.group.proofs.Shares.{mask-place, helper-place}
 use Rattle.group.proofs.Answers.{answers_held}
-use borrow.Author.Rules.{rules}
 use Rattle.group.proofs.after_forms.Goals as goal
 
 pub constants-requires : goal.constants-requires

@@ -2,7 +2,6 @@
 -- Assumes nothing.
 use native.Mathlib.Omega.{arith}
 use Rattle.group.proofs.Shares.{filled-tape, tape_size, tape-room}
-use borrow.Author.Rules.{rules}
 use Rattle.group.proofs.fill.Goals as goal
 
 pub returns : goal.returns

@@ -8,7 +8,6 @@ use Rattle.forms.proofs.Room.{holds_circuit}
 use Rattle.parties.specs.Parties.{Share}
 use Rattle.group.specs.Shares.{share_at}
 use Rattle.group.proofs.Answers.{length_front, held-part}
-use borrow.Author.Rules.{rules}
 use Rattle.group.proofs.group.Goals as goal
 
 pub sixteen_shares-requires : goal.sixteen_shares-requires

@@ -3,7 +3,6 @@
 use mathlib.Core.Path.{refl}
 use Rattle.group.proofs.Shares.{tape_fits}
 use Rattle.group.proofs.Tapes.{tape_stored}
-use borrow.Author.Rules.{rules}
 use Rattle.group.proofs.one_tape.Goals as goal
 
 pub fill-requires : goal.fill-requires

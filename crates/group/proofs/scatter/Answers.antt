@@ -1,10 +1,9 @@
 -- `group::scatter` meets its contract. The invariant: the first w words are stored, and the words of other lanes are as they were.
 -- Assumes nothing.
-use mathlib.Core.Path.{◌≡◌, refl}
+use mathlib.Core.Path.{refl}
 use native.Mathlib.Omega.{arith}
-use Prim.Native.Nat.{◌-◌, ◌≤◌}
-use lib.ListN.{length, length-set}
-use Rattle.group.proofs.Tapes.{StoredTo, stored_none, stored_more, stored_all}
+use lib.ListN.{length-set}
+use Rattle.group.proofs.Tapes.{stored_none, stored_more, stored_all}
 use Rattle.group.proofs.scatter.Goals as goal
 
 pub loop-w-init : goal.loop-w-init

@@ -1,10 +1,9 @@
 -- `group::scatter` meets its contract. The invariant: the first w words are stored, and the words of other lanes are as they were.
 -- Assumes nothing.
-use mathlib.Core.Path.{◌≡◌, refl}
-use native.Mathlib.Omega.{arith}
+use mathlib.Core.Path.{◌≡◌}
 use Prim.Native.Nat.{◌-◌, ◌≤◌}
-use lib.ListN.{length, length-set}
-use Rattle.group.proofs.Tapes.{StoredTo, stored_none, stored_more, stored_all}
+use lib.ListN.{length}
+use Rattle.group.proofs.Tapes.{StoredTo}
 use Rattle.group.proofs.scatter.Given as goal
 
 abbrev pub invariant-loop-w : goal.invariant-loop-w

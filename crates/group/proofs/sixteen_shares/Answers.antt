@@ -4,7 +4,6 @@ use mathlib.Core.Path.{refl, sym, ◌∙◌}
 use native.Mathlib.Omega.{arith}
 use Rattle.group.specs.Shares.{tapes_of, sampled}
 use Rattle.group.proofs.Shares.{tapes-shares, shares_of_tapes}
-use borrow.Author.Rules.{rules}
 use Rattle.group.proofs.sixteen_shares.Goals as goal
 
 pub sixteen_tapes-requires : goal.sixteen_tapes-requires

@@ -1,12 +1,11 @@
 -- `group::sixteen_tapes` meets its contract. The invariant: the tapes of the lanes below q are stored.
 -- Assumes nothing.
-use mathlib.Core.Path.{◌≡◌, refl, ◌∙◌}
+use mathlib.Core.Path.{refl, ◌∙◌}
 use native.Mathlib.Omega.{arith}
-use Prim.Native.Nat.{◌+◌, ◌-◌, ◌*◌, ◌≤◌}
-use lib.ListN.{length}
+use Prim.Native.Nat.{◌+◌, ◌*◌}
 use Rattle.memory.proofs.Xors.{length-sized}
 use Rattle.group.specs.Shares.{tapes_of}
-use Rattle.group.proofs.Tapes.{TapesTo, tapes_none, tapes_more, tapes_all, tape_of_party, seed-room}
+use Rattle.group.proofs.Tapes.{tapes_none, tapes_more, tapes_all, tape_of_party, seed-room}
 use Rattle.group.proofs.sixteen_tapes.Goals as goal
 
 pub loop-q-init : goal.loop-q-init
@@ -40,7 +39,7 @@ pub one_tape-requires : goal.one_tape-requires
 one_tape-requires c =
     let l = c.requires.3 in
     let w = c.requires.0.seed in
-    let e = length-sized c.args.leaves.now ((16 * c.args.g + c.loop-q.q) * c.args.rep.s) c.args.rep.s (omega (arith, ( seed-room c.args.g c.args.rep.groups c.loop-q.q c.args.rep.s c.requires.1 c.loop-q-test.true))) in
+    let e = length-sized c.args.leaves.now ((16 * c.args.g + c.loop-q.q) * c.args.rep.s) c.args.rep.s (omega (arith, (seed-room c.args.g c.args.rep.groups c.loop-q.q c.args.rep.s c.requires.1 c.loop-q-test.true))) in
     (c.requires.0, c.loop-q-test.true, c.requires.2, omega arith, c.loop-q.invariant.1 ∙ c.requires.4)
 
 pub overflow_add-q : goal.overflow_add-q

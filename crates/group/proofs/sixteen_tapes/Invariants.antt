@@ -1,12 +1,10 @@
 -- `group::sixteen_tapes` meets its contract. The invariant: the tapes of the lanes below q are stored.
 -- Assumes nothing.
-use mathlib.Core.Path.{◌≡◌, refl, ◌∙◌}
-use native.Mathlib.Omega.{arith}
-use Prim.Native.Nat.{◌+◌, ◌-◌, ◌*◌, ◌≤◌}
+use mathlib.Core.Path.{◌≡◌}
+use Prim.Native.Nat.{◌-◌, ◌≤◌}
 use lib.ListN.{length}
-use Rattle.memory.proofs.Xors.{length-sized}
 use Rattle.group.specs.Shares.{tapes_of}
-use Rattle.group.proofs.Tapes.{TapesTo, tapes_none, tapes_more, tapes_all, tape_of_party, seed-room}
+use Rattle.group.proofs.Tapes.{TapesTo}
 use Rattle.group.proofs.sixteen_tapes.Given as goal
 
 abbrev pub invariant-loop-q : goal.invariant-loop-q

@@ -8,7 +8,6 @@ use Rattle.forms.proofs.Room.{holds_circuit}
 use Rattle.parties.specs.Parties.{Share}
 use Rattle.group.specs.Shares.{share_at}
 use Rattle.group.proofs.Answers.{length_front, held-part, circuit_alike}
-use borrow.Author.Rules.{rules}
 use Rattle.group.proofs.two_groups.Goals as goal
 
 pub sixteen_shares-requires : goal.sixteen_shares-requires
@@ -65,6 +64,9 @@ returns c =
     let u = c.requires.0.variables in
     let circuit = c.args.circuit.now in
     let share : ℕ → Share = λ q. share_at r c.args.salt.now c.args.leaves.now c.args.values.now (16 * c.args.g + q) in
-    let more : ℕ → Share = λ q. share_at o c.args.salt.now c.args.others.now c.args.more.now (16 * c.args.h + q) in record { first = c.after_forms.ensures share w.ensures
-          (l.ensures.0 (circuit_in r.n r.m circuit) (λ q. (share q).s) (holds_circuit _ _ _) (held-part r share w.new.words r.n refl (omega arith) w.ensures)); second = c.after_forms-2.ensures more v.ensures
-          (l.ensures.1 (circuit_in o.n o.m circuit) (λ q. (more q).s) (circuit_alike r.n r.m o.n o.m circuit c.requires.2 c.requires.3) (held-part o more v.new.words r.n c.requires.2 (omega arith) v.ensures)) }
+    let more : ℕ → Share = λ q. share_at o c.args.salt.now c.args.others.now c.args.more.now (16 * c.args.h + q) in record {
+      first = c.after_forms.ensures share w.ensures
+          (l.ensures.0 (circuit_in r.n r.m circuit) (λ q. (share q).s) (holds_circuit _ _ _) (held-part r share w.new.words r.n refl (omega arith) w.ensures));
+      second = c.after_forms-2.ensures more v.ensures
+          (l.ensures.1 (circuit_in o.n o.m circuit) (λ q. (more q).s) (circuit_alike r.n r.m o.n o.m circuit c.requires.2 c.requires.3) (held-part o more v.new.words r.n c.requires.2 (omega arith) v.ensures));
+    }

@@ -3,7 +3,6 @@
 use native.Mathlib.Omega.{arith}
 use lib.ListN.{length-set}
 use Rattle.hashes.proofs.Laws.{assembled}
-use borrow.Author.Rules.{rules}
 use Rattle.hashes.proofs.assemble.Goals as goal
 
 pub section-a-requires : goal.section-a-requires

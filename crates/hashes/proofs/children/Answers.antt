@@ -7,7 +7,6 @@ use lib.ListN.{length}
 use Rattle.sponge.specs.Sponge.{shake256}
 use Rattle.hashes.specs.Hashes.{child_fields, child_seed}
 use Rattle.hashes.proofs.Laws.{three_numbers}
-use borrow.Author.Rules.{rules}
 use Rattle.hashes.proofs.children.Goals as goal
 
 pub returns : goal.returns

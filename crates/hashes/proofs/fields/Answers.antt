@@ -6,7 +6,6 @@ use Prim.Native.Nat.{ℕ}
 use lib.ListN.{length}
 use native.Mathlib.Omega.{arith}
 use Rattle.sponge.specs.Sponge.{shake256}
-use borrow.Author.Rules.{rules}
 use Rattle.hashes.proofs.Laws.{behind_fields, only_fields}
 use Rattle.hashes.proofs.fields.Goals as goal
 

@@ -1,7 +1,6 @@
 -- `hashes::first` meets its contract: a byte and then the salt are absorbed as one list.
 -- Assumes nothing.
 use Rattle.hashes.proofs.Laws.{absorbed_after_byte}
-use borrow.Author.Rules.{rules}
 use Rattle.hashes.proofs.first.Goals as goal
 
 pub returns : goal.returns

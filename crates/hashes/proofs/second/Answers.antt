@@ -5,7 +5,6 @@ use Rattle.sponge.specs.declared.Sponge.{Sponge}
 use Rattle.sponge.specs.Steps.{absorbed}
 use Rattle.sponge.proofs.Laws.{absorbed-append}
 use Rattle.hashes.proofs.Laws.{absorbed_after_byte}
-use borrow.Author.Rules.{rules}
 use Rattle.hashes.proofs.second.Goals as goal
 
 pub returns : goal.returns

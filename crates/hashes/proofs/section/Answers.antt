@@ -5,7 +5,6 @@ use mathlib.Core.Path.{refl}
 use native.Mathlib.Omega.{arith}
 use lib.ListN.{length}
 use Rattle.memory.proofs.Sections.{copied_part}
-use borrow.Author.Rules.{rules}
 use Rattle.hashes.proofs.section.Goals as goal
 
 pub returns : goal.returns

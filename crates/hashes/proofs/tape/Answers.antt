@@ -7,7 +7,6 @@ use lib.ListN.{length}
 use Rattle.sponge.specs.Sponge.{shake256}
 use Rattle.hashes.specs.Hashes.{tape_fields, expanded_tape}
 use Rattle.hashes.proofs.Laws.{two_numbers}
-use borrow.Author.Rules.{rules}
 use Rattle.hashes.proofs.tape.Goals as goal
 
 pub returns : goal.returns

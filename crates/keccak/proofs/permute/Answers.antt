@@ -2,7 +2,6 @@
 -- Assumes nothing.
 use mathlib.Core.Path.{ap, ◌∙◌}
 use native.Mathlib.Omega.{arith}
-use lib.Dec.{lit<}
 use Rattle.keccak.specs.Keccak.{state, lane, keccak_f}
 use Rattle.keccak.specs.Lanes.{listed}
 use Rattle.keccak.proofs.Steps.{state_lanes}

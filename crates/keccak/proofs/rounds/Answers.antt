@@ -1,7 +1,7 @@
 -- `keccak::rounds` meets its contract. The invariant: after i turns the lanes, but for those that are turned over, are those of the first 2i rounds.
 -- The constants of a turn are those of its rounds by the rule of the table. Assumes nothing.
 use mathlib.Core.Path.{◌≡◌, ap, sym, ◌∙◌}
-use Prim.Native.Nat.{ℕ, ◌≤◌, ◌-◌, ◌*◌}
+use Prim.Native.Nat.{ℕ, ◌*◌}
 use native.Mathlib.Omega.{arith}
 use Rattle.keccak.specs.Keccak as spec
 use Rattle.keccak.specs.Lanes.{listed, turned, kept}

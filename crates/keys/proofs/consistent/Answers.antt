@@ -1,6 +1,5 @@
 -- `keys::consistent` meets its contract: the circuit of the seed is in its room, and the key is held to it. Assumes nothing.
 use native.Mathlib.Omega.{arith}
-use borrow.Author.Rules.{rules}
 use Rattle.keys.proofs.Read.{seed_inside, circuit-bytes, consistent_told}
 use Rattle.keys.proofs.consistent.Goals as goal
 

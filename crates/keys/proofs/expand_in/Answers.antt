@@ -1,7 +1,6 @@
 -- `keys::expand_in` meets its contract. Assumes nothing.
 use mathlib.Core.Path.{ap, ◌∙◌}
 use lib.ListN.{length}
-use borrow.Author.Rules.{rules}
 use Rattle.field.specs.Packing.{unpack}
 use Rattle.keys.proofs.Made.{expanded}
 use Rattle.keys.proofs.expand_in.Goals as goal

@@ -1,7 +1,6 @@
 -- `keys::half_in` meets its contract: the public key is written where the secret key is consistent. Assumes nothing.
 use mathlib.Core.Path.{sym, ◌∙◌}
 use native.Mathlib.Omega.{arith}
-use borrow.Author.Rules.{rules}
 use Rattle.biscuit.specs.Keys.{consistent_key}
 use Rattle.keys.proofs.Made.{circuit-room}
 use Rattle.keys.proofs.Read.{half_written, half_kept}

@@ -1,7 +1,6 @@
 -- `keys::key_values` meets its contract: the circuit is in its room, s in its place, and t and y are the values there. Assumes nothing.
 use mathlib.Core.Path.{ap, ◌∙◌}
 use Prim.Native.Nat.{ℕ}
-use borrow.Author.Rules.{rules}
 use Rattle.sponge.specs.Sponge.{shake256}
 use Rattle.forms.specs.Sampling.{expand_elements}
 use Rattle.keys.proofs.Made.{key_values_lem}

@@ -1,6 +1,5 @@
 -- `keys::make_in` meets its contract: both keys are written from the values that were worked out. Assumes nothing.
 use native.Mathlib.Omega.{arith}
-use borrow.Author.Rules.{rules}
 use Rattle.keys.proofs.Made.{circuit-room, secret_size, secret_small, public_size, secret-bytes, public_bytes_lem}
 use Rattle.keys.proofs.make_in.Goals as goal
 

@@ -1,7 +1,6 @@
 -- `keys::read_secret` meets its contract. Assumes nothing.
 use mathlib.Core.Path.{◌∙◌}
 use native.Mathlib.Omega.{arith}
-use borrow.Author.Rules.{rules}
 use Rattle.keys.proofs.Read.{seed_inside, elements_read}
 use Rattle.keys.proofs.read_secret.Goals as goal
 

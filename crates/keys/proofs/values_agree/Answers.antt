@@ -1,5 +1,4 @@
 -- `keys::values_agree` meets its contract: both comparisons are with what the circuit gives. Assumes nothing.
-use borrow.Author.Rules.{rules}
 use Rattle.keys.proofs.Read.{compared}
 use Rattle.keys.proofs.values_agree.Goals as goal
 

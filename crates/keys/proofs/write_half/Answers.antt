@@ -2,7 +2,6 @@
 use mathlib.Core.Path.{ap, ◌∙◌}
 use native.Mathlib.Omega.{arith}
 use lib.ListN.{length}
-use borrow.Author.Rules.{rules}
 use Rattle.biscuit.proofs.Keys.{length_packed}
 use Rattle.keys.proofs.Read.{seed_inside, half_size, half_bytes}
 use Rattle.keys.proofs.write_half.Goals as goal

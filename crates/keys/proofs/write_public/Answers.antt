@@ -1,5 +1,4 @@
 -- `keys::write_public` meets its contract. Assumes nothing.
-use borrow.Author.Rules.{rules}
 use Rattle.keys.proofs.Made.{seed_then_packed}
 use Rattle.keys.proofs.write_public.Goals as goal
 

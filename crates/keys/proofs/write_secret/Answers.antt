@@ -1,5 +1,4 @@
 -- `keys::write_secret` meets its contract. Assumes nothing.
-use borrow.Author.Rules.{rules}
 use Rattle.keys.proofs.Made.{seed_then_three}
 use Rattle.keys.proofs.write_secret.Goals as goal
 

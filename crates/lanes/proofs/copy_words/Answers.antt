@@ -1,12 +1,11 @@
 -- `lanes::copy_words` meets its contract. The invariant: the first i words of `dst` are those of `src`, and the others are as they were.
 -- Assumes nothing.
-use mathlib.Core.Path.{◌≡◌, ◌∙◌, ap}
-use mathlib.Core.List.{List, ◌++◌}
-use Prim.Native.Nat.{ℕ, ◌≤◌, ◌-◌}
+use mathlib.Core.Path.{◌∙◌, ap}
+use mathlib.Core.List.{List}
+use Prim.Native.Nat.{ℕ}
 use native.Mathlib.Omega.{arith}
-use lib.ListN.{length, get_or, set, take, drop, length-set}
+use lib.ListN.{get_or, set, length-set}
 use Rattle.memory.proofs.Parts.{copied_more, copied_all}
-use borrow.Author.Rules.{rules}
 use Rattle.lanes.proofs.copy_words.Goals as goal
 
 pub loop-i-preserved : goal.loop-i-preserved

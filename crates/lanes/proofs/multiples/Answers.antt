@@ -5,7 +5,6 @@ use native.Mathlib.Omega.{arith}
 use Rattle.memory.proofs.Stores.{over-whole}
 use Rattle.lanes.specs.Lanes.{Multiples}
 use Rattle.lanes.proofs.Products.{combined, multiples_lanes}
-use borrow.Author.Rules.{rules}
 use Rattle.lanes.proofs.multiples.Goals as goal
 
 pub returns : goal.returns

@@ -1,7 +1,6 @@
 -- `lanes::times` meets its contract: the word and its doubles under the four bits of e sum up to the product in each lane.
 -- Assumes nothing.
 use Rattle.lanes.proofs.Products.{bit_fits, times_lanes}
-use borrow.Author.Rules.{rules}
 use Rattle.lanes.proofs.times.Goals as goal
 
 pub overflow_mul-result : goal.overflow_mul-result

@@ -2,7 +2,6 @@
 -- Assumes nothing.
 use native.Mathlib.Omega.{arith}
 use Rattle.lanes.proofs.Bytes.{joined_lanes}
-use borrow.Author.Rules.{rules}
 use Rattle.lanes.proofs.word_at.Goals as goal
 
 pub bounds-bytes-at : goal.bounds-bytes-at
@@ -51,6 +50,6 @@ pub bounds-bytes-at-8 : goal.bounds-bytes-at-8
 bounds-bytes-at-8 c = omega arith
 
 pub returns : goal.returns
-returns c = 
+returns c =
     joined_lanes c.args.bytes.now c.args.at _ _ _ _ _ _ _ _ c.wide.ensures c.wide-2.ensures c.wide-3.ensures
     c.wide-4.ensures c.wide-5.ensures c.wide-6.ensures c.wide-7.ensures c.wide-8.ensures

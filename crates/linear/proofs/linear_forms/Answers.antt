@@ -7,7 +7,6 @@ use lib.ListN.{length, replicate}
 use Rattle.field.proofs.Packing.{half_up}
 use Rattle.forms.proofs.Room.{rows_size, affine_size, affine_two, circuit_three}
 use Rattle.linear.proofs.Shares.{linear_values}
-use borrow.Author.Rules.{rules}
 use Rattle.linear.proofs.linear_forms.Goals as goal
 
 pub overflow_mul-size : goal.overflow_mul-size

@@ -7,7 +7,6 @@ use Rattle.field.proofs.Packing.{half_up}
 use Rattle.forms.proofs.Room.{rows_size, affine_size, affine_two, circuit_three}
 use Rattle.linear.specs.Two.{strand}
 use Rattle.linear.proofs.Shares.{strand_values}
-use borrow.Author.Rules.{rules}
 use Rattle.linear.proofs.linear_two.Goals as goal
 
 pub overflow_mul-size : goal.overflow_mul-size

@@ -1,15 +1,14 @@
 -- `marks::add_constants` meets its contract. The invariant: the words below k are those with their elements added, and the others are as they were.
 -- Assumes nothing.
-use mathlib.Core.Path.{◌≡◌, refl, ◌∙◌}
-use Prim.Native.Nat.{◌+◌, ◌-◌, ◌≤◌}
+use mathlib.Core.Path.{refl, ◌∙◌}
+use Prim.Native.Nat.{◌+◌}
 use native.Mathlib.Omega.{arith}
-use lib.ListN.{length, length-set}
-use Rattle.memory.proofs.Groups.{Stepped, stepped_none, stepped_more, stepped_all}
+use lib.ListN.{length-set}
+use Rattle.memory.proofs.Groups.{stepped_none, stepped_more, stepped_all}
 use Rattle.field.specs.Packing.{nib}
 use Rattle.field.proofs.Packing.{nib-lt}
-use Rattle.marks.specs.Marks.{MarkedWord, MarkedBytes, EachWord}
+use Rattle.marks.specs.Marks.{MarkedBytes, EachWord}
 use Rattle.marks.proofs.Marks.{marked_turn, marked_turn_fits}
-use borrow.Author.Rules.{rules}
 use Rattle.marks.proofs.add_constants.Goals as goal
 
 pub loop-k-init : goal.loop-k-init

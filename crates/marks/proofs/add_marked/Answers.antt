@@ -1,14 +1,12 @@
 -- `marks::add_marked` meets its contract. The invariant: the words below k are those with their elements added, and the others are as they were.
 -- Assumes nothing.
-use mathlib.Core.Path.{◌≡◌, refl}
-use Prim.Native.Nat.{◌-◌, ◌≤◌}
+use mathlib.Core.Path.{refl}
 use native.Mathlib.Omega.{arith}
-use lib.ListN.{length, length-set}
+use lib.ListN.{length-set}
 use Rattle.field.specs.Vectors.{◌!◌}
-use Rattle.memory.proofs.Groups.{Stepped, stepped_none, stepped_more, stepped_all}
-use Rattle.marks.specs.Marks.{MarkedWord, Marked, EachWord}
+use Rattle.memory.proofs.Groups.{stepped_none, stepped_more, stepped_all}
+use Rattle.marks.specs.Marks.{Marked, EachWord}
 use Rattle.marks.proofs.Marks.{marked_turn, marked_turn_fits}
-use borrow.Author.Rules.{rules}
 use Rattle.marks.proofs.add_marked.Goals as goal
 
 pub loop-k-init : goal.loop-k-init

@@ -1,14 +1,10 @@
 -- `marks::add_words` meets its contract. The invariant: the words below k are added to, and the others are as they were.
 -- Assumes nothing.
-use mathlib.Core.Path.{◌≡◌, refl}
-use Prim.Native.Nat.{◌-◌, ◌≤◌}
+use mathlib.Core.Path.{refl}
 use native.Mathlib.Omega.{arith}
-use lib.Bits.{bit_xor}
-use lib.ListN.{length, length-set}
-use Rattle.field.specs.Vectors.{◌!◌}
-use Rattle.memory.proofs.Groups.{Stepped, stepped_none, stepped_more, stepped_all}
+use lib.ListN.{length-set}
+use Rattle.memory.proofs.Groups.{stepped_none, stepped_more, stepped_all}
 use Rattle.marks.specs.Marks.{EachWord}
-use borrow.Author.Rules.{rules}
 use Rattle.marks.proofs.add_words.Goals as goal
 
 pub loop-k-init : goal.loop-k-init

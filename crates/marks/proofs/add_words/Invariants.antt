@@ -1,14 +1,11 @@
 -- `marks::add_words` meets its contract. The invariant: the words below k are added to, and the others are as they were.
 -- Assumes nothing.
-use mathlib.Core.Path.{◌≡◌, refl}
+use mathlib.Core.Path.{◌≡◌}
 use Prim.Native.Nat.{◌-◌, ◌≤◌}
-use native.Mathlib.Omega.{arith}
 use lib.Bits.{bit_xor}
-use lib.ListN.{length, length-set}
+use lib.ListN.{length}
 use Rattle.field.specs.Vectors.{◌!◌}
-use Rattle.memory.proofs.Groups.{Stepped, stepped_none, stepped_more, stepped_all}
-use Rattle.marks.specs.Marks.{EachWord}
-use borrow.Author.Rules.{rules}
+use Rattle.memory.proofs.Groups.{Stepped}
 use Rattle.marks.proofs.add_words.Given as goal
 
 abbrev pub invariant-loop-k : goal.invariant-loop-k

@@ -1,12 +1,10 @@
 -- `marks::clear_marked` meets its contract. The invariant: the words below k are cleared in the marked lanes, and the others are as they were.
 -- Assumes nothing.
-use mathlib.Core.Path.{◌≡◌, refl}
-use Prim.Native.Nat.{◌-◌, ◌≤◌}
+use mathlib.Core.Path.{refl}
 use native.Mathlib.Omega.{arith}
-use lib.ListN.{length, length-set}
-use borrow.Author.Rules.{rules}
-use Rattle.marks.specs.Marks.{ClearedWord, Cleared, EachWord}
-use Rattle.memory.proofs.Groups.{Stepped, stepped_none, stepped_more, stepped_all}
+use lib.ListN.{length-set}
+use Rattle.marks.specs.Marks.{Cleared, EachWord}
+use Rattle.memory.proofs.Groups.{stepped_none, stepped_more, stepped_all}
 use Rattle.marks.proofs.Marks.{cleared_turn}
 use Rattle.marks.proofs.clear_marked.Goals as goal
 

@@ -1,13 +1,10 @@
 -- `marks::clear_marked` meets its contract. The invariant: the words below k are cleared in the marked lanes, and the others are as they were.
 -- Assumes nothing.
-use mathlib.Core.Path.{◌≡◌, refl}
+use mathlib.Core.Path.{◌≡◌}
 use Prim.Native.Nat.{◌-◌, ◌≤◌}
-use native.Mathlib.Omega.{arith}
-use lib.ListN.{length, length-set}
-use borrow.Author.Rules.{rules}
-use Rattle.marks.specs.Marks.{ClearedWord, Cleared, EachWord}
-use Rattle.memory.proofs.Groups.{Stepped, stepped_none, stepped_more, stepped_all}
-use Rattle.marks.proofs.Marks.{cleared_turn}
+use lib.ListN.{length}
+use Rattle.marks.specs.Marks.{ClearedWord}
+use Rattle.memory.proofs.Groups.{Stepped}
 use Rattle.marks.proofs.clear_marked.Given as goal
 
 abbrev pub invariant-loop-k : goal.invariant-loop-k

@@ -1,13 +1,10 @@
 -- `marks::fold_into` meets its contract. The invariant: the words below k are the sums of the lanes, and the others are as they were.
 -- Assumes nothing.
-use mathlib.Core.Path.{◌≡◌, refl}
-use Prim.Native.Nat.{◌-◌, ◌≤◌}
+use mathlib.Core.Path.{refl}
 use native.Mathlib.Omega.{arith}
-use lib.ListN.{length, length-set}
-use Rattle.field.specs.Vectors.{◌!◌}
-use Rattle.memory.proofs.Groups.{Stepped, stepped_none, stepped_more, stepped_all}
-use Rattle.marks.specs.Marks.{EachWord, lane_sum}
-use borrow.Author.Rules.{rules}
+use lib.ListN.{length-set}
+use Rattle.memory.proofs.Groups.{stepped_none, stepped_more, stepped_all}
+use Rattle.marks.specs.Marks.{EachWord}
 use Rattle.marks.proofs.fold_into.Goals as goal
 
 pub loop-k-init : goal.loop-k-init

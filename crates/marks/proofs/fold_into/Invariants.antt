@@ -1,13 +1,11 @@
 -- `marks::fold_into` meets its contract. The invariant: the words below k are the sums of the lanes, and the others are as they were.
 -- Assumes nothing.
-use mathlib.Core.Path.{◌≡◌, refl}
+use mathlib.Core.Path.{◌≡◌}
 use Prim.Native.Nat.{◌-◌, ◌≤◌}
-use native.Mathlib.Omega.{arith}
-use lib.ListN.{length, length-set}
+use lib.ListN.{length}
 use Rattle.field.specs.Vectors.{◌!◌}
-use Rattle.memory.proofs.Groups.{Stepped, stepped_none, stepped_more, stepped_all}
-use Rattle.marks.specs.Marks.{EachWord, lane_sum}
-use borrow.Author.Rules.{rules}
+use Rattle.memory.proofs.Groups.{Stepped}
+use Rattle.marks.specs.Marks.{lane_sum}
 use Rattle.marks.proofs.fold_into.Given as goal
 
 abbrev pub invariant-loop-k : goal.invariant-loop-k

@@ -2,7 +2,6 @@
 -- Assumes nothing.
 use mathlib.Core.Path.{refl}
 use Rattle.marks.proofs.Sums.{folded_sum}
-use borrow.Author.Rules.{rules}
 use Rattle.marks.proofs.folded.Goals as goal
 
 pub returns : goal.returns

@@ -1,13 +1,10 @@
 -- `marks::load_words` meets its contract. The invariant: the words below k are filled, and the others are as they were.
 -- Assumes nothing.
-use mathlib.Core.Path.{◌≡◌, refl}
-use Prim.Native.Nat.{◌-◌, ◌*◌, ◌≤◌}
+use mathlib.Core.Path.{refl}
 use native.Mathlib.Omega.{arith}
-use lib.ListN.{length, length-set}
-use Rattle.memory.proofs.Groups.{Stepped, stepped_none, stepped_more, stepped_all}
-use Rattle.lanes.specs.Lanes.{WordAt}
+use lib.ListN.{length-set}
+use Rattle.memory.proofs.Groups.{stepped_none, stepped_more, stepped_all}
 use Rattle.marks.specs.Marks.{EachWord}
-use borrow.Author.Rules.{rules}
 use Rattle.marks.proofs.load_words.Goals as goal
 
 pub loop-k-init : goal.loop-k-init

@@ -2,7 +2,6 @@
 -- Assumes nothing.
 use native.Mathlib.Omega.{arith}
 use Rattle.marks.proofs.Marks.{mark_before, mark_here, mark_behind}
-use borrow.Author.Rules.{rules}
 use Rattle.marks.proofs.mark.Goals as goal
 
 pub returns-then-i-first : goal.returns-then-i-first

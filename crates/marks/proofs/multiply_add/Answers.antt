@@ -1,14 +1,12 @@
 -- `marks::multiply_add` meets its contract. The invariant: the words below k are multiplied and added to, and the others are as they were.
 -- Assumes nothing.
-use mathlib.Core.Path.{◌≡◌, refl}
-use Prim.Native.Nat.{◌-◌, ◌≤◌}
+use mathlib.Core.Path.{refl}
 use native.Mathlib.Omega.{arith}
-use lib.ListN.{length, length-set}
+use lib.ListN.{length-set}
 use Rattle.field.specs.Vectors.{◌!◌}
-use Rattle.memory.proofs.Groups.{Stepped, stepped_none, stepped_more, stepped_all}
-use Rattle.marks.specs.Marks.{MultipliedWord, Multiplied, EachWord}
+use Rattle.memory.proofs.Groups.{stepped_none, stepped_more, stepped_all}
+use Rattle.marks.specs.Marks.{Multiplied, EachWord}
 use Rattle.marks.proofs.Marks.{multiplied_word}
-use borrow.Author.Rules.{rules}
 use Rattle.marks.proofs.multiply_add.Goals as goal
 
 pub loop-k-init : goal.loop-k-init

@@ -1,14 +1,11 @@
 -- `marks::multiply_add` meets its contract. The invariant: the words below k are multiplied and added to, and the others are as they were.
 -- Assumes nothing.
-use mathlib.Core.Path.{◌≡◌, refl}
+use mathlib.Core.Path.{◌≡◌}
 use Prim.Native.Nat.{◌-◌, ◌≤◌}
-use native.Mathlib.Omega.{arith}
-use lib.ListN.{length, length-set}
+use lib.ListN.{length}
 use Rattle.field.specs.Vectors.{◌!◌}
-use Rattle.memory.proofs.Groups.{Stepped, stepped_none, stepped_more, stepped_all}
-use Rattle.marks.specs.Marks.{MultipliedWord, Multiplied, EachWord}
-use Rattle.marks.proofs.Marks.{multiplied_word}
-use borrow.Author.Rules.{rules}
+use Rattle.memory.proofs.Groups.{Stepped}
+use Rattle.marks.specs.Marks.{MultipliedWord}
 use Rattle.marks.proofs.multiply_add.Given as goal
 
 abbrev pub invariant-loop-k : goal.invariant-loop-k

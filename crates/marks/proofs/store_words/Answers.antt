@@ -1,10 +1,7 @@
 -- `marks::store_words` meets its contract. The invariant: the words below k are written, and what lies behind all of them is kept. Assumes nothing.
-use mathlib.Core.Path.{◌≡◌, refl, ◌∙◌}
-use Prim.Native.Nat.{◌-◌, ◌*◌, ◌≤◌}
+use mathlib.Core.Path.{refl, ◌∙◌}
 use native.Mathlib.Omega.{arith}
-use lib.ListN.{length, drop}
-use borrow.Author.Rules.{rules}
-use Rattle.marks.proofs.Stored.{StoredTo, stored_none, stored_more, behind_more, stored_all}
+use Rattle.marks.proofs.Stored.{stored_none, stored_more, behind_more, stored_all}
 use Rattle.marks.proofs.store_words.Goals as goal
 
 pub loop-k-init : goal.loop-k-init

@@ -2,9 +2,9 @@
 -- Assumes nothing.
 use mathlib.Core.Path.{◌≡◌, ◌∙◌, ap, ap₂}
 use mathlib.Core.List.{List, ◌++◌, append-nil}
-use Prim.Native.Nat.{ℕ, ◌≤◌, ◌-◌}
+use Prim.Native.Nat.{ℕ}
 use native.Mathlib.Omega.{arith}
-use lib.ListN.{length, replicate, drop, set, drop_of_length-le, length-set}
+use lib.ListN.{length, replicate, set, drop_of_length-le, length-set}
 use borrow.Author.Rules.{rules}
 use borrow.Author.Fill.{fill_more}
 use Rattle.memory.proofs.clear.Goals as goal

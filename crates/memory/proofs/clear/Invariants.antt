@@ -1,12 +1,9 @@
 -- `memory::clear` meets its contract. The invariant: the first i bytes are 0, and the others are as they were.
 -- Assumes nothing.
-use mathlib.Core.Path.{◌≡◌, ◌∙◌, ap, ap₂}
-use mathlib.Core.List.{List, ◌++◌, append-nil}
-use Prim.Native.Nat.{ℕ, ◌≤◌, ◌-◌}
-use native.Mathlib.Omega.{arith}
-use lib.ListN.{length, replicate, drop, set, drop_of_length-le, length-set}
-use borrow.Author.Rules.{rules}
-use borrow.Author.Fill.{fill_more}
+use mathlib.Core.Path.{◌≡◌}
+use mathlib.Core.List.{◌++◌}
+use Prim.Native.Nat.{◌≤◌, ◌-◌}
+use lib.ListN.{length, replicate, drop}
 use Rattle.memory.proofs.clear.Given as goal
 
 abbrev pub invariant-loop-i : goal.invariant-loop-i

@@ -1,10 +1,10 @@
 -- `memory::copy` meets its contract. The invariant: the first i bytes of `dst` are those of `src`, and the others are as they were.
 -- Assumes nothing.
-use mathlib.Core.Path.{◌≡◌, ◌∙◌, ap}
-use mathlib.Core.List.{List, ◌++◌}
-use Prim.Native.Nat.{ℕ, ◌≤◌, ◌-◌, min}
+use mathlib.Core.Path.{◌∙◌, ap}
+use mathlib.Core.List.{List}
+use Prim.Native.Nat.{ℕ}
 use native.Mathlib.Omega.{arith}
-use lib.ListN.{length, get_or, set, take, drop, length-set}
+use lib.ListN.{get_or, set, length-set}
 use borrow.Author.Rules.{rules}
 use Rattle.memory.proofs.Parts.{copied_more, copied_all}
 use Rattle.memory.proofs.copy.Goals as goal

@@ -1,12 +1,9 @@
 -- `memory::copy` meets its contract. The invariant: the first i bytes of `dst` are those of `src`, and the others are as they were.
 -- Assumes nothing.
-use mathlib.Core.Path.{◌≡◌, ◌∙◌, ap}
-use mathlib.Core.List.{List, ◌++◌}
-use Prim.Native.Nat.{ℕ, ◌≤◌, ◌-◌, min}
-use native.Mathlib.Omega.{arith}
-use lib.ListN.{length, get_or, set, take, drop, length-set}
-use borrow.Author.Rules.{rules}
-use Rattle.memory.proofs.Parts.{copied_more, copied_all}
+use mathlib.Core.Path.{◌≡◌}
+use mathlib.Core.List.{◌++◌}
+use Prim.Native.Nat.{◌≤◌, ◌-◌, min}
+use lib.ListN.{length, take, drop}
 use Rattle.memory.proofs.copy.Given as goal
 
 abbrev pub invariant-loop-i : goal.invariant-loop-i

@@ -1,10 +1,7 @@
 -- `memory::equal` meets its contract. The invariant: `difference` is 0 exactly where the first i bytes are the same.
 -- Assumes nothing.
-use mathlib.Core.Path.{◌≡◌, refl, sym, ◌∙◌}
-use Prim.Native.Nat.{◌≤◌, ◌-◌}
+use mathlib.Core.Path.{refl, sym, ◌∙◌}
 use native.Mathlib.Omega.{arith}
-use lib.Dec.{eqb}
-use lib.ListN.{length, take}
 use borrow.Author.Rules.{rules}
 use Rattle.memory.specs.Lists.{same}
 use Rattle.memory.proofs.Comparing.{same_more, same_all, same_lengths}

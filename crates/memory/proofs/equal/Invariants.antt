@@ -1,13 +1,10 @@
 -- `memory::equal` meets its contract. The invariant: `difference` is 0 exactly where the first i bytes are the same.
 -- Assumes nothing.
-use mathlib.Core.Path.{◌≡◌, refl, sym, ◌∙◌}
+use mathlib.Core.Path.{◌≡◌}
 use Prim.Native.Nat.{◌≤◌, ◌-◌}
-use native.Mathlib.Omega.{arith}
 use lib.Dec.{eqb}
 use lib.ListN.{length, take}
-use borrow.Author.Rules.{rules}
 use Rattle.memory.specs.Lists.{same}
-use Rattle.memory.proofs.Comparing.{same_more, same_all, same_lengths}
 use Rattle.memory.proofs.equal.Given as goal
 
 abbrev pub invariant-loop-i : goal.invariant-loop-i

@@ -7,7 +7,6 @@ use Rattle.sets.specs.Sets.{S}
 use Rattle.opening.specs.Shown.{leaf_under, shown_under}
 use Rattle.opening.proofs.Showing.{part-put, section_size, under_part}
 use Rattle.biscuit.proofs.Room.{hidden_from_one, hidden-within}
-use borrow.Author.Rules.{rules}
 use Rattle.opening.proofs.show.Goals as goal
 
 pub overflow_mul-w : goal.overflow_mul-w
@@ -60,6 +59,9 @@ returns c =
     let one = c.show_one in
     let e = c.hidden_party-h.ensures in
     let s = S a.p in
-    let w = a.p.l * s + 2 * s in record { shown = part-put a.out.now one.new.out _ (a.i * w) w h.6 one.auto.out
-          (one.ensures.shown ∙ under_part (λ k r i. shown_under k a.salt.now (a.i + 1) a.p.l r i) a.roots.now (a.i * s) s _ _ h.5 e); leaf = part-put a.roots.now one.new.root _ (a.i * s) s h.5 one.auto.root
-          (one.ensures.leaf ∙ under_part (λ k r i. leaf_under k a.salt.now (a.i + 1) a.p.l r i) a.roots.now (a.i * s) s _ _ h.5 e) }
+    let w = a.p.l * s + 2 * s in record {
+      shown = part-put a.out.now one.new.out _ (a.i * w) w h.6 one.auto.out
+          (one.ensures.shown ∙ under_part (λ k r i. shown_under k a.salt.now (a.i + 1) a.p.l r i) a.roots.now (a.i * s) s _ _ h.5 e);
+      leaf = part-put a.roots.now one.new.root _ (a.i * s) s h.5 one.auto.root
+          (one.ensures.leaf ∙ under_part (λ k r i. leaf_under k a.salt.now (a.i + 1) a.p.l r i) a.roots.now (a.i * s) s _ _ h.5 e);
+    }

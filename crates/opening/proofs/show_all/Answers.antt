@@ -1,16 +1,11 @@
 -- `opening::show_all` meets its contract. The invariant: `out` begins with the sections of the first i repetitions and `roots` with their hidden leaves;
 -- the roots behind them are still as they were. Assumes nothing.
-use mathlib.Core.Path.{◌≡◌}
-use mathlib.Core.List.{◌++◌}
-use Prim.Native.Nat.{◌+◌, ◌-◌, ◌*◌, ◌≤◌, ◌<◌}
+use Prim.Native.Nat.{◌+◌, ◌*◌, ◌<◌}
 use native.Mathlib.Omega.{arith}
-use lib.ListN.{length, drop}
 use Rattle.memory.proofs.Lists.{room}
 use Rattle.sets.specs.Sets.{S}
-use Rattle.biscuit.specs.Signature.{repeated}
 use Rattle.opening.specs.Shown.{leaf_of, shown_of}
 use Rattle.opening.proofs.Turning.{leaves_turn, sections_none, sections_whole, shown_turn}
-use borrow.Author.Rules.{rules}
 use Rattle.opening.proofs.show_all.Goals as goal
 
 pub loop-i-init : goal.loop-i-init

@@ -5,7 +5,6 @@ use Prim.Native.Nat.{◌≤◌}
 use native.Mathlib.Omega.{arith}
 use lib.ListN.{length}
 use Rattle.opening.proofs.Showing.{leaf_over-root, shown-written}
-use borrow.Author.Rules.{rules}
 use Rattle.opening.proofs.show_with.Goals as goal
 
 pub returns : goal.returns
@@ -17,5 +16,8 @@ returns c =
     let made = c.commit in
     let s = length a.root.now in
     let x = way.new.leaf in
-    let kept = way.auto.leaf in record { shown = shown-written s a.salt.now a.e a.l a.root.now a.h a.leaf.now x fits kept way.ensures.leaf a.out.now way.new.out made.new.out
-          h.6 way.ensures.path made.ensures; leaf = leaf_over-root s a.salt.now a.e a.l a.root.now a.h a.leaf.now x fits kept way.ensures.leaf _ refl c.copy.ensures }
+    let kept = way.auto.leaf in record {
+      shown = shown-written s a.salt.now a.e a.l a.root.now a.h a.leaf.now x fits kept way.ensures.leaf a.out.now way.new.out made.new.out
+          h.6 way.ensures.path made.ensures;
+      leaf = leaf_over-root s a.salt.now a.e a.l a.root.now a.h a.leaf.now x fits kept way.ensures.leaf _ refl c.copy.ensures;
+    }

@@ -1,5 +1,4 @@
 -- `parties::count` meets its contract: one shifted by l is 2^l. Assumes nothing.
-use borrow.Author.Rules.{rules}
 use Rattle.sets.specs.Sets.{N}
 use Rattle.forms.proofs.Room.{shifted_one}
 use Rattle.parties.proofs.count.Goals as goal

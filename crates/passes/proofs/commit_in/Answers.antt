@@ -5,7 +5,6 @@ use Prim.Native.Nat.{◌*◌}
 use Rattle.sets.specs.Sets.{S}
 use Rattle.biscuit.proofs.Room.{some-groups, few_groups}
 use Rattle.passes.proofs.Committing.{committed_turn, part-secret, part-helper}
-use borrow.Author.Rules.{rules}
 use Rattle.passes.proofs.commit_in.Goals as goal
 
 pub groups_of-count-requires : goal.groups_of-count-requires

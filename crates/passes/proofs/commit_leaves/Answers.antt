@@ -4,7 +4,6 @@ use native.Mathlib.Omega.{arith}
 use Prim.Native.Nat.{◌-◌}
 use lib.ListN.{replicate}
 use lib.Seq.{length-take-le}
-use borrow.Author.Rules.{rules}
 use Rattle.passes.proofs.commit_leaves.Goals as goal
 
 pub slice_bounds-ds-end : goal.slice_bounds-ds-end

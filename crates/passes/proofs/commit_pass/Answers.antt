@@ -2,9 +2,7 @@
 -- Assumes nothing.
 use mathlib.Core.Path.{◌≡◌, refl, ◌∙◌}
 use native.Mathlib.Omega.{arith}
-use Prim.Native.Nat.{◌-◌, ◌≤◌}
-use lib.ListN.{length}
-use Rattle.passes.proofs.Committing.{Committing, committing_none, committing_more, committed_all, corrections_all, planted_all}
+use Rattle.passes.proofs.Committing.{committing_none, committing_more, committed_all, corrections_all, planted_all}
 use Rattle.passes.proofs.commit_pass.Goals as goal
 
 pub loop-done-init : goal.loop-done-init

@@ -1,10 +1,9 @@
 -- `passes::commit_pass` meets its contract. The invariant: the first hash has absorbed `done` repetitions, the packing holds their corrections, and work the leaves of the last of them.
 -- Assumes nothing.
-use mathlib.Core.Path.{◌≡◌, refl, ◌∙◌}
-use native.Mathlib.Omega.{arith}
+use mathlib.Core.Path.{◌≡◌}
 use Prim.Native.Nat.{◌-◌, ◌≤◌}
 use lib.ListN.{length}
-use Rattle.passes.proofs.Committing.{Committing, committing_none, committing_more, committed_all, corrections_all, planted_all}
+use Rattle.passes.proofs.Committing.{Committing}
 use Rattle.passes.proofs.commit_pass.Given as goal
 
 abbrev pub invariant-loop-done : goal.invariant-loop-done

@@ -5,7 +5,6 @@ use Prim.Native.Nat.{◌-◌, ◌/◌}
 use lib.ListN.{replicate}
 use lib.Seq.{length-take-le}
 use Rattle.sets.specs.Sets.{S}
-use borrow.Author.Rules.{rules}
 use Rattle.passes.proofs.plant.Goals as goal
 
 pub slice_bounds-root-end : goal.slice_bounds-root-end

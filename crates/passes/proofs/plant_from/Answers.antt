@@ -7,7 +7,6 @@ use Rattle.refusals.proofs.Refusals.{work_length_is}
 use Rattle.biscuit.proofs.Room.{mapped}
 use Rattle.passes.proofs.Bounds.{root-end}
 use Rattle.passes.proofs.Planting.{planted, leaves-lent}
-use borrow.Author.Rules.{rules}
 use Rattle.passes.proofs.plant_from.Goals as goal
 
 pub layout_of-map-requires : goal.layout_of-map-requires

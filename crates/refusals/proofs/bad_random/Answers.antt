@@ -1,5 +1,4 @@
 -- `refusals::bad_random` meets its contract. Assumes nothing.
-use borrow.Author.Rules.{rules}
 use Rattle.refusals.proofs.Sizes.{no_random, some_random}
 use Rattle.refusals.proofs.bad_random.Goals as goal
 

@@ -1,5 +1,4 @@
 -- `refusals::public_half_sizes` meets its contract: each answer is read off the tests that led to it. Assumes nothing.
-use borrow.Author.Rules.{rules}
 use Rattle.refusals.specs.Refusals.{public_half_sizes}
 use Rattle.refusals.proofs.Sizes.{differ, agree, short, enough, work-short, work-enough, tested}
 use Rattle.refusals.proofs.public_half_sizes.Goals as goal

@@ -1,6 +1,5 @@
 -- `refusals::seed_len` meets its contract. Assumes nothing.
 use mathlib.Core.Path.{ap}
-use borrow.Author.Rules.{rules}
 use Rattle.sets.specs.Sets.{S}
 use Rattle.refusals.proofs.seed_len.Goals as goal
 

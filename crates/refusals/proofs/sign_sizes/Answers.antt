@@ -1,6 +1,5 @@
 -- `refusals::sign_sizes` meets its contract: each answer is read off the tests that led to it. Assumes nothing.
 use native.Mathlib.Omega.{arith}
-use borrow.Author.Rules.{rules}
 use borrow.Author.Tests.{lt-ltb, le-ltb}
 use Rattle.sets.proofs.Laws.{bounded}
 use Rattle.refusals.specs.Refusals.{sign_sizes}

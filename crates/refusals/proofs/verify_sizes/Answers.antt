@@ -1,5 +1,4 @@
 -- `refusals::verify_sizes` meets its contract: each answer is read off the tests that led to it. Assumes nothing.
-use borrow.Author.Rules.{rules}
 use borrow.Author.Tests.{lt-ltb, le-ltb}
 use Rattle.refusals.specs.Refusals.{verify_sizes}
 use Rattle.refusals.proofs.Sizes.{differ, agree, work-short, work-enough, tested}

@@ -2,9 +2,7 @@
 -- Assumes nothing.
 use mathlib.Core.Path.{◌≡◌, refl, ◌∙◌}
 use native.Mathlib.Omega.{arith}
-use Prim.Native.Nat.{◌-◌, ◌≤◌}
-use lib.ListN.{length}
-use Rattle.replies.proofs.Hiding.{ShownTo, shown_none, shown_more, shown_all}
+use Rattle.replies.proofs.Hiding.{shown_none, shown_more, shown_all}
 use Rattle.replies.proofs.alpha_pass.Goals as goal
 
 pub loop-done-init : goal.loop-done-init

@@ -1,10 +1,9 @@
 -- `replies::alpha_pass` meets its contract. The invariant: whatever circuit work holds, the hidden α of `done` repetitions stand behind the corrections, and nothing else of the packing has changed.
 -- Assumes nothing.
-use mathlib.Core.Path.{◌≡◌, refl, ◌∙◌}
-use native.Mathlib.Omega.{arith}
+use mathlib.Core.Path.{◌≡◌}
 use Prim.Native.Nat.{◌-◌, ◌≤◌}
 use lib.ListN.{length}
-use Rattle.replies.proofs.Hiding.{ShownTo, shown_none, shown_more, shown_all}
+use Rattle.replies.proofs.Hiding.{ShownTo}
 use Rattle.replies.proofs.alpha_pass.Given as goal
 
 abbrev pub invariant-loop-done : goal.invariant-loop-done

@@ -3,11 +3,9 @@
 -- Assumes nothing.
 use mathlib.Core.Path.{◌≡◌, refl, ◌∙◌}
 use native.Mathlib.Omega.{arith}
-use Prim.Native.Nat.{◌+◌, ◌-◌, ◌≤◌}
-use lib.ListN.{length}
-use Rattle.passes.specs.Passes.{Kept}
+use Prim.Native.Nat.{◌+◌}
 use Rattle.passes.proofs.Committing.{kept_none, kept_more}
-use Rattle.replies.proofs.Answering.{AnsweredTo, answering_none, answering_more, answering_two, answered_all}
+use Rattle.replies.proofs.Answering.{answering_none, answering_more, answering_two, answered_all}
 use Rattle.replies.proofs.answer_pass.Goals as goal
 
 pub loop-done-init : goal.loop-done-init
@@ -61,8 +59,11 @@ returns-then-done-tau c =
     let t = c.if-done-tau.true in
     let b = c.loop-done-test.false in
     let e : l.done + 1 ≡ c.args.p.tau = omega arith in
-    let u = c.answer_turn in record { absorbs = answered_all _ _ _ _ _ _ _ _ e c.requires.0.«repeated»
-          (answering_more c.args.p c.args.salt.now c.args.secret.now c.args.packing.now c.args.work.now l.work i.2 l.done _ _ _ i.3 u.ensures.absorbs); keeps = kept_more _ _ _ _ i.2 u.ensures.keeps }
+    let u = c.answer_turn in record {
+      absorbs = answered_all _ _ _ _ _ _ _ _ e c.requires.0.«repeated»
+          (answering_more c.args.p c.args.salt.now c.args.secret.now c.args.packing.now c.args.work.now l.work i.2 l.done _ _ _ i.3 u.ensures.absorbs);
+      keeps = kept_more _ _ _ _ i.2 u.ensures.keeps;
+    }
 
 pub returns : goal.returns
 returns c =

@@ -1,13 +1,11 @@
 -- `replies::answer_pass` meets its contract. The invariant: whatever circuit work holds, the second hash has absorbed `done` repetitions.
 -- The repetitions are taken two at a time, and one that is left over by itself.
 -- Assumes nothing.
-use mathlib.Core.Path.{◌≡◌, refl, ◌∙◌}
-use native.Mathlib.Omega.{arith}
-use Prim.Native.Nat.{◌+◌, ◌-◌, ◌≤◌}
+use mathlib.Core.Path.{◌≡◌}
+use Prim.Native.Nat.{◌-◌, ◌≤◌}
 use lib.ListN.{length}
 use Rattle.passes.specs.Passes.{Kept}
-use Rattle.passes.proofs.Committing.{kept_none, kept_more}
-use Rattle.replies.proofs.Answering.{AnsweredTo, answering_none, answering_more, answering_two, answered_all}
+use Rattle.replies.proofs.Answering.{AnsweredTo}
 use Rattle.replies.proofs.answer_pass.Given as goal
 
 abbrev pub invariant-loop-done : goal.invariant-loop-done

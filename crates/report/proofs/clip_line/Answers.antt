@@ -1,5 +1,4 @@
 -- `report::clip_line` meets its contract: what was read is a part of the input, and work has the 65,536 bytes that verifying needs. Assumes nothing.
-use borrow.Author.Rules.{rules}
 use mathlib.Core.Path.{ap, ◌∙◌}
 use mathlib.Core.List.{List}
 use Prim.Native.Nat.{ℕ}

@@ -1,5 +1,4 @@
 -- `report::genuine` meets its contract: the line is laid out in a text of its own and copied. Assumes nothing.
-use borrow.Author.Rules.{rules}
 use mathlib.Core.Path.{◌∙◌}
 use native.Mathlib.Omega.{arith}
 use Rattle.report.specs.Report.{genuine_line}

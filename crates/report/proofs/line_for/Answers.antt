@@ -1,5 +1,4 @@
 -- `report::line_for` meets its contract: the numbers of reading and of verifying give the line. Assumes nothing.
-use borrow.Author.Rules.{rules}
 use mathlib.Core.Path.{sym, ap, ◌∙◌}
 use native.Mathlib.Omega.{arith}
 use Rattle.envelope.specs.declared.Header.{Header}

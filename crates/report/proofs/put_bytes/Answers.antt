@@ -1,5 +1,4 @@
 -- `report::put_bytes` meets its contract: the part is lent, and comes back holding the bytes. Assumes nothing.
-use borrow.Author.Rules.{rules}
 use mathlib.Core.Path.{refl}
 use native.Mathlib.Omega.{arith}
 use Rattle.memory.proofs.Sections.{copied_part}

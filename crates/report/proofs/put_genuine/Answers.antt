@@ -1,5 +1,4 @@
 -- `report::put_genuine` meets its contract: the word, the set, a space, the length and the end, each behind the one before. Assumes nothing.
-use borrow.Author.Rules.{rules}
 use native.Mathlib.Omega.{arith}
 use Rattle.report.specs.Report.{genuine_word}
 use Rattle.report.proofs.Lines.{length_genuine, genuine_laid}

@@ -1,5 +1,4 @@
 -- `report::put_refused` meets its contract: the word, the number and the end, each behind the one before. Assumes nothing.
-use borrow.Author.Rules.{rules}
 use native.Mathlib.Omega.{arith}
 use Rattle.report.specs.Report.{refused_word}
 use Rattle.report.proofs.Lines.{length_refused, refused_laid}

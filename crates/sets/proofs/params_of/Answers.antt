@@ -1,7 +1,6 @@
 -- `sets::params_of` meets its contract: the columns hold the specification's rows, and the row has the set's parameters.
 -- Assumes nothing.
 use mathlib.Core.Path.{◌∙◌}
-use borrow.Author.Rules.{rules}
 use Rattle.sets.proofs.Laws.{columns}
 use Rattle.sets.proofs.params_of.Goals as goal
 

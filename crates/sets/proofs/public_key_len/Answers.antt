@@ -1,7 +1,6 @@
 -- `sets::public_key_len` meets its contract: the table holds the formula's value at each row, and the row has the set's parameters.
 -- Assumes nothing.
 use mathlib.Core.Path.{◌∙◌, ap}
-use borrow.Author.Rules.{rules}
 use Rattle.sets.specs.Sets.{public_key_length}
 use Rattle.sets.proofs.Laws.{public_keys}
 use Rattle.sets.proofs.public_key_len.Goals as goal

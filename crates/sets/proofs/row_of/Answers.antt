@@ -2,7 +2,6 @@
 -- Assumes nothing.
 use native.Mathlib.Omega.{arith}
 use lib.Dec.{lit<}
-use borrow.Author.Rules.{rules}
 use Rattle.sets.proofs.Laws.{no_such_set_lem}
 use Rattle.sets.proofs.row_of.Goals as goal
 

@@ -1,7 +1,6 @@
 -- `sets::signature_len` meets its contract: the table holds the formula's value at each row, and the row has the set's parameters.
 -- Assumes nothing.
 use mathlib.Core.Path.{◌∙◌, ap}
-use borrow.Author.Rules.{rules}
 use Rattle.sets.specs.Sets.{signature_length}
 use Rattle.sets.proofs.Laws.{signatures}
 use Rattle.sets.proofs.signature_len.Goals as goal

@@ -1,6 +1,5 @@
 -- `signing::answer` meets its contract: the challenges are written behind the roots, and the pass keeps both. Assumes nothing.
 use native.Mathlib.Omega.{arith}
-use borrow.Author.Rules.{rules}
 use Rattle.replies.proofs.Answering.{answers_all_signed}
 use Rattle.signing.proofs.Sizes.{challenges-within}
 use Rattle.signing.proofs.Answering.{challenged-work, answered}

@@ -1,6 +1,5 @@
 -- `signing::commit` meets its contract: both hashes, from what the passes promise. Assumes nothing.
 use mathlib.Core.Path.{◌∙◌}
-use borrow.Author.Rules.{rules}
 use Rattle.passes.proofs.Committing.{absorbed-signed, corrections-signed, kept_planted}
 use Rattle.signing.proofs.Answering.{committed}
 use Rattle.signing.proofs.commit.Goals as goal

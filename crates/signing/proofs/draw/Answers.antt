@@ -1,5 +1,4 @@
 -- `signing::draw` meets its contract: salt and roots are two parts of one tape. Assumes nothing.
-use borrow.Author.Rules.{rules}
 use Rattle.signing.proofs.Drawing.{salt-drawn, roots-drawn}
 use Rattle.signing.proofs.draw.Goals as goal
 

@@ -4,7 +4,6 @@ use native.Mathlib.Omega.{arith}
 use Rattle.biscuit.proofs.Parts.{length-first_back}
 use Rattle.keys.proofs.Made.{circuit-room}
 use Rattle.signing.proofs.Keyed.{keyed-secret, keyed-elements, keyed-circuit, wrote, left_alone}
-use borrow.Author.Rules.{rules}
 use Rattle.signing.proofs.sign_with.Goals as goal
 
 pub slice_bounds-consistent-end : goal.slice_bounds-consistent-end

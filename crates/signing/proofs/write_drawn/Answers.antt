@@ -3,7 +3,6 @@ use mathlib.Core.Path.{◌∙◌}
 use native.Mathlib.Nat.{sub-zero}
 use native.Mathlib.Omega.{arith}
 use lib.Seq.{length-take-le}
-use borrow.Author.Rules.{rules}
 use Rattle.signing.proofs.Sizes.{seed_small, two_seeds}
 use Rattle.signing.proofs.write_drawn.Goals as goal
 

@@ -1,7 +1,6 @@
 -- `signing::write_hashed` meets its contract: the corrections stand in the packing when the opening begins. Assumes nothing.
 use mathlib.Core.Path.{refl, ◌∙◌}
 use native.Mathlib.Omega.{arith}
-use borrow.Author.Rules.{rules}
 use Rattle.signing.proofs.Closing.{packing_part, packed_size, hashed-written}
 use Rattle.signing.proofs.Sizes.{sections}
 use Rattle.signing.proofs.write_hashed.Goals as goal

@@ -1,7 +1,6 @@
 -- `signing::write_salted` meets its contract: with what is drawn the signer of algorithm 12 is held. Assumes nothing.
 use mathlib.Core.Path.{◌∙◌}
 use native.Mathlib.Omega.{arith}
-use borrow.Author.Rules.{rules}
 use Rattle.biscuit.specs.Sign.{signer_of}
 use Rattle.signing.proofs.Sizes.{roots-within}
 use Rattle.signing.proofs.Keyed.{signature-signed}

@@ -1,15 +1,12 @@
 -- `single::add_elements` meets its contract. The invariant: the first k entries have their elements added, and the others are as they were.
 -- Assumes nothing.
-use mathlib.Core.Path.{◌≡◌, ◌∙◌}
-use mathlib.Core.List.{◌++◌}
-use Prim.Native.Nat.{◌-◌, ◌≤◌}
+use mathlib.Core.Path.{◌∙◌}
 use native.Mathlib.Omega.{arith}
-use lib.ListN.{length, take, drop, length-set}
+use lib.ListN.{length, length-set}
 use Rattle.field.specs.Packing.{unpack}
 use Rattle.field.specs.Vectors.{◌⊕◌}
 use Rattle.memory.proofs.Xors.{written_more, written_all}
 use Rattle.single.proofs.Alpha.{behind, length-elements, elements-entry}
-use borrow.Author.Rules.{rules}
 use Rattle.single.proofs.add_elements.Goals as goal
 
 pub bounds-v-k : goal.bounds-v-k

@@ -1,15 +1,11 @@
 -- `single::add_elements` meets its contract. The invariant: the first k entries have their elements added, and the others are as they were.
 -- Assumes nothing.
-use mathlib.Core.Path.{◌≡◌, ◌∙◌}
+use mathlib.Core.Path.{◌≡◌}
 use mathlib.Core.List.{◌++◌}
 use Prim.Native.Nat.{◌-◌, ◌≤◌}
-use native.Mathlib.Omega.{arith}
-use lib.ListN.{length, take, drop, length-set}
+use lib.ListN.{length, take, drop}
 use Rattle.field.specs.Packing.{unpack}
 use Rattle.field.specs.Vectors.{◌⊕◌}
-use Rattle.memory.proofs.Xors.{written_more, written_all}
-use Rattle.single.proofs.Alpha.{behind, length-elements, elements-entry}
-use borrow.Author.Rules.{rules}
 use Rattle.single.proofs.add_elements.Given as goal
 
 abbrev pub invariant-loop-k : goal.invariant-loop-k

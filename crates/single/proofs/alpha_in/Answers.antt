@@ -1,7 +1,6 @@
 -- `single::alpha_in` meets its contract: the α of the tape that the hash gives.
 -- Assumes nothing.
 use Rattle.single.proofs.Alpha.{alpha-tape}
-use borrow.Author.Rules.{rules}
 use Rattle.single.proofs.alpha_in.Goals as goal
 
 pub returns : goal.returns

@@ -6,7 +6,6 @@ use native.Mathlib.Omega.{arith}
 use lib.Seq.{length-take-le}
 use Rattle.group.proofs.Shares.{tape_size}
 use Rattle.single.proofs.Alpha.{alpha-held}
-use borrow.Author.Rules.{rules}
 use Rattle.single.proofs.alpha_of.Goals as goal
 
 pub alpha_in-requires : goal.alpha_in-requires

@@ -1,15 +1,12 @@
 -- `single::answer` meets its contract. The invariant: the first k entries are those of x·ε + a, and the others are as they were.
 -- Assumes nothing.
-use mathlib.Core.Path.{◌≡◌, ◌∙◌}
-use mathlib.Core.List.{◌++◌}
-use Prim.Native.Nat.{◌-◌, ◌≤◌}
+use mathlib.Core.Path.{◌∙◌}
 use native.Mathlib.Omega.{arith}
-use lib.ListN.{length, take, drop, length-set}
+use lib.ListN.{length, drop, length-set}
 use Rattle.field.specs.Packing.{unpack}
 use Rattle.field.specs.Vectors.{◌⊕◌, ◌⊙◌}
 use Rattle.memory.proofs.Xors.{written_more, written_all}
 use Rattle.single.proofs.Alpha.{behind, length_answer, answer_entry}
-use borrow.Author.Rules.{rules}
 use Rattle.single.proofs.answer.Goals as goal
 
 pub bounds-out-k : goal.bounds-out-k

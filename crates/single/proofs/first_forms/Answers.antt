@@ -5,7 +5,6 @@ use native.Mathlib.Nat.{sub-zero}
 use native.Mathlib.Omega.{arith}
 use lib.Seq.{length-take-le}
 use Rattle.memory.proofs.Xors.{get_or_zeros}
-use borrow.Author.Rules.{rules}
 use Rattle.single.proofs.first_forms.Goals as goal
 
 pub forms_in-requires : goal.forms_in-requires

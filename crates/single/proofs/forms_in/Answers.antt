@@ -5,7 +5,6 @@ use native.Mathlib.Omega.{arith}
 use Rattle.field.specs.Vectors.{◌!◌}
 use Rattle.field.proofs.Packing.{half_up}
 use Rattle.single.proofs.Vector.{rows_fit, first_out}
-use borrow.Author.Rules.{rules}
 use Rattle.single.proofs.forms_in.Goals as goal
 
 pub rows-requires : goal.rows-requires

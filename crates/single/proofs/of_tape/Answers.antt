@@ -3,7 +3,6 @@
 use mathlib.Core.Path.{◌∙◌}
 use Rattle.field.proofs.Packing.{half_up}
 use Rattle.single.proofs.Alpha.{delta_lent, challenge-lent, alpha_parts}
-use borrow.Author.Rules.{rules}
 use Rattle.single.proofs.of_tape.Goals as goal
 
 pub returns : goal.returns

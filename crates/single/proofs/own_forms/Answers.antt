@@ -2,7 +2,6 @@
 -- Assumes nothing.
 use mathlib.Core.Path.{◌∙◌}
 use Rattle.single.proofs.Alpha.{forms_first, forms_other}
-use borrow.Author.Rules.{rules}
 use Rattle.single.proofs.own_forms.Goals as goal
 
 pub returns-then-i-eq1 : goal.returns-then-i-eq1

@@ -1,7 +1,6 @@
 -- `single::own_share` meets its contract: the elements of the tape, and at party 1 with Δs, which was copied first.
 -- Assumes nothing.
 use Rattle.single.proofs.Alpha.{share_first, share_other}
-use borrow.Author.Rules.{rules}
 use Rattle.single.proofs.own_share.Goals as goal
 
 pub returns-then-i-eq1 : goal.returns-then-i-eq1

@@ -1,7 +1,6 @@
 -- `single::product` meets its contract: lane 0 of the word is the product.
 -- Assumes nothing.
 use Rattle.single.proofs.Alpha.{lane_product}
-use borrow.Author.Rules.{rules}
 use Rattle.single.proofs.product.Goals as goal
 
 pub returns : goal.returns

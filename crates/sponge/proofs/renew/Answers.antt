@@ -3,7 +3,6 @@
 use mathlib.Core.Path.{sym, ap, ◌∙◌}
 use mathlib.Core.List.{List}
 use Prim.Native.Nat.{ℕ}
-use borrow.Author.Rules.{rules}
 use Rattle.sponge.specs.Steps.{tape}
 use Rattle.sponge.proofs.Squeeze.{ready_open, ready_spent}
 use Rattle.sponge.proofs.renew.Goals as goal

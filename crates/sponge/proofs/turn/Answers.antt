@@ -3,7 +3,6 @@
 use mathlib.Core.Path.{sym, ap, ◌∙◌}
 use mathlib.Core.List.{List}
 use Prim.Native.Nat.{ℕ}
-use borrow.Author.Rules.{rules}
 use Rattle.sponge.specs.Steps.{sponge}
 use Rattle.sponge.proofs.Absorb.{turned_open, turned_full}
 use Rattle.sponge.proofs.turn.Goals as goal

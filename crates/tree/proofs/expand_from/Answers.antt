@@ -2,7 +2,6 @@
 -- Assumes nothing.
 use native.Mathlib.Omega.{arith}
 use Rattle.tree.proofs.Laying.{expanded}
-use borrow.Author.Rules.{rules}
 use Rattle.tree.proofs.expand_from.Goals as goal
 
 pub returns : goal.returns

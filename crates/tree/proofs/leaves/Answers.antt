@@ -2,14 +2,13 @@
 -- Assumes nothing.
 use native.Mathlib.Nat.{pow-suc}
 use native.Mathlib.Numerals.{add-one}
-use mathlib.Core.Path.{◌≡◌, refl, sym, ap, ◌∙◌}
-use Prim.Native.Nat.{ℕ, ◌-◌, ◌*◌, ◌^◌, ◌≤◌}
+use mathlib.Core.Path.{refl, sym, ap, ◌∙◌}
+use Prim.Native.Nat.{ℕ, ◌*◌, ◌^◌, ◌≤◌}
 use native.Mathlib.Omega.{arith}
 use lib.ListN.{length}
 use Rattle.memory.specs.Sections.{pieces}
-use Rattle.tree.specs.Tree.{children, seeds_at}
+use Rattle.tree.specs.Tree.{seeds_at}
 use Rattle.tree.proofs.Laying.{level_room, pow_small, seed-room, root_lies, level_turn, leaves_lie}
-use borrow.Author.Rules.{rules}
 use Rattle.tree.proofs.leaves.Goals as goal
 
 pub loop-k-init : goal.loop-k-init

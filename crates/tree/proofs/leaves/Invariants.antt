@@ -1,15 +1,10 @@
 -- `tree::leaves` meets its contract. The invariant: the first n seeds of `out` are level k of the tree.
 -- Assumes nothing.
-use native.Mathlib.Nat.{pow-suc}
-use native.Mathlib.Numerals.{add-one}
-use mathlib.Core.Path.{◌≡◌, refl, sym, ap, ◌∙◌}
-use Prim.Native.Nat.{ℕ, ◌-◌, ◌*◌, ◌^◌, ◌≤◌}
-use native.Mathlib.Omega.{arith}
+use mathlib.Core.Path.{◌≡◌}
+use Prim.Native.Nat.{◌-◌, ◌*◌, ◌^◌, ◌≤◌}
 use lib.ListN.{length}
 use Rattle.memory.specs.Sections.{pieces}
 use Rattle.tree.specs.Tree.{children, seeds_at}
-use Rattle.tree.proofs.Laying.{level_room, pow_small, seed-room, root_lies, level_turn, leaves_lie}
-use borrow.Author.Rules.{rules}
 use Rattle.tree.proofs.leaves.Given as goal
 
 abbrev pub invariant-loop-k : goal.invariant-loop-k

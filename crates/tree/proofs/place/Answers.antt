@@ -5,7 +5,6 @@ use Prim.Native.Nat.{ℕ, ◌*◌}
 use native.Mathlib.Omega.{arith}
 use lib.ListN.{length}
 use Rattle.tree.proofs.Around.{place-room, sibling-room, placed}
-use borrow.Author.Rules.{rules}
 use Rattle.tree.proofs.place.Goals as goal
 
 pub overflow_mul-beside : goal.overflow_mul-beside

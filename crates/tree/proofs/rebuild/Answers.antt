@@ -3,17 +3,14 @@
 use Rattle.tree.proofs.Positions.{position-shift, parent_lt}
 use Rattle.tree.proofs.Around.{blank_lies, length-cleared, own_piece, length-own, around_turn, rebuilt}
 use mathlib.Core.Path.{◌≡◌, refl, sym, ap, ◌∙◌}
-use Prim.Native.Nat.{ℕ, ◌-◌, ◌*◌, ◌^◌, ◌≤◌}
+use Prim.Native.Nat.{ℕ, ◌*◌, ◌^◌, ◌≤◌}
 use native.Mathlib.Nat.{pow-suc}
 use native.Mathlib.Numerals.{add-one}
 use native.Mathlib.Omega.{arith}
-use lib.ListN.{length, replicate}
-use Rattle.memory.specs.Sections.{pieces}
+use lib.ListN.{length}
 use Rattle.memory.proofs.Lists.{room}
-use Rattle.tree.specs.Tree.{children}
 use Rattle.tree.proofs.Coded.{coded_at}
 use Rattle.tree.proofs.Laying.{level_room, pow_small, seed-room}
-use borrow.Author.Rules.{rules}
 use Rattle.tree.proofs.rebuild.Goals as goal
 
 pub slice_bounds-clear-end : goal.slice_bounds-clear-end

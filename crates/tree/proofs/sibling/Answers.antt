@@ -3,7 +3,6 @@
 use native.Mathlib.Omega.{arith}
 use Rattle.tree.proofs.Positions.{sibling_odd, sibling-even}
 use mathlib.Core.Path.{sym}
-use borrow.Author.Rules.{rules}
 use Rattle.tree.proofs.sibling.Goals as goal
 
 pub returns-then-p-eq1 : goal.returns-then-p-eq1

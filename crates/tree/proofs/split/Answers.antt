@@ -1,7 +1,7 @@
 -- `tree::split` meets its contract. The invariant: the parents from j on are spread out, and what lies before their children is as it was.
 -- Assumes nothing.
 use mathlib.Core.Path.{◌≡◌, sym, ap, ◌∙◌}
-use Prim.Native.Nat.{ℕ, ◌-◌, ◌*◌, ◌≤◌}
+use Prim.Native.Nat.{ℕ, ◌-◌, ◌*◌}
 use native.Mathlib.Omega.{arith}
 use lib.ListN.{length}
 use Rattle.memory.specs.Lists.{put}

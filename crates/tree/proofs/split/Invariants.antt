@@ -1,14 +1,11 @@
 -- `tree::split` meets its contract. The invariant: the parents from j on are spread out, and what lies before their children is as it was.
 -- Assumes nothing.
-use mathlib.Core.Path.{◌≡◌, sym, ap, ◌∙◌}
-use Prim.Native.Nat.{ℕ, ◌-◌, ◌*◌, ◌≤◌}
-use native.Mathlib.Omega.{arith}
+use mathlib.Core.Path.{◌≡◌}
+use Prim.Native.Nat.{◌*◌, ◌≤◌}
 use lib.ListN.{length}
 use Rattle.memory.specs.Lists.{put}
 use Rattle.tree.specs.Tree.{children}
 use Rattle.tree.specs.Spread.{spread}
-use Rattle.tree.proofs.Laying.{spread_none, spread_turn, parent_room, children-room}
-use borrow.Author.Rules.{rules}
 use Rattle.tree.proofs.split.Given as goal
 
 abbrev pub invariant-loop-j : goal.invariant-loop-j

@@ -6,7 +6,6 @@ use lib.ListN.{replicate, length-replicate}
 use Rattle.tree.specs.Tree.{children}
 use Rattle.tree.proofs.Laying.{children-sized, pairs_le}
 use Rattle.tree.proofs.Around.{around-put}
-use borrow.Author.Rules.{rules}
 use Rattle.tree.proofs.split_around.Goals as goal
 
 pub place-requires : goal.place-requires

@@ -6,7 +6,6 @@ use Prim.Native.Nat.{ℕ, ◌*◌, ◌/◌, ◌%◌}
 use native.Mathlib.Omega.{arith}
 use lib.ListN.{take, drop}
 use Rattle.tree.proofs.Walking.{towards_in, right_le, besides_copied}
-use borrow.Author.Rules.{rules}
 use Rattle.tree.proofs.step.Goals as goal
 
 pub overflow_mul-right : goal.overflow_mul-right

@@ -1,16 +1,15 @@
 -- `tree::walk` meets its contract. The invariant: the seed on the way lies at `at` of `pair`, and `out` begins with the path so far. Where the
 -- walk ends the seed on the way is the hidden party's leaf.
 -- Assumes nothing.
-use mathlib.Core.Path.{◌≡◌, ap, ◌∙◌}
-use mathlib.Core.List.{List, ◌++◌, flatten}
-use Prim.Native.Nat.{ℕ, ◌-◌, ◌*◌, ◌≤◌}
+use mathlib.Core.Path.{ap, ◌∙◌}
+use mathlib.Core.List.{List}
+use Prim.Native.Nat.{ℕ}
 use native.Mathlib.Omega.{arith}
 use lib.ListN.{length, take, drop}
 use Rattle.memory.proofs.Lists.{room}
-use Rattle.tree.specs.Tree.{children, on_way, path_at}
+use Rattle.tree.specs.Tree.{on_way}
 use Rattle.tree.proofs.Positions.{position-shift}
 use Rattle.tree.proofs.Walking.{on_way_turn, path_none, path_turn, path-whole, leaf_copied, root-first}
-use borrow.Author.Rules.{rules}
 use Rattle.tree.proofs.walk.Goals as goal
 
 pub loop-k-init : goal.loop-k-init
@@ -52,5 +51,8 @@ pub returns : goal.returns
 returns c =
     let a = c.args in
     let l = c.loop-k in
-    let s = length a.root.now in record { path = path-whole s a.salt.now a.e a.l a.root.now a.hidden l.k a.out.now l.out (omega arith) (omega arith) l.invariant.5; leaf = leaf_copied s a.salt.now a.e a.l a.root.now a.hidden l.k l.at l.pair a.leaf.now _ (omega arith) (omega arith) (omega arith) (omega arith) l.invariant.4
-          c.copy-2.ensures }
+    let s = length a.root.now in record {
+      path = path-whole s a.salt.now a.e a.l a.root.now a.hidden l.k a.out.now l.out (omega arith) (omega arith) l.invariant.5;
+      leaf = leaf_copied s a.salt.now a.e a.l a.root.now a.hidden l.k l.at l.pair a.leaf.now _ (omega arith) (omega arith) (omega arith) (omega arith) l.invariant.4
+          c.copy-2.ensures;
+    }

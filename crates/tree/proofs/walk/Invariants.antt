@@ -1,16 +1,11 @@
 -- `tree::walk` meets its contract. The invariant: the seed on the way lies at `at` of `pair`, and `out` begins with the path so far. Where the
 -- walk ends the seed on the way is the hidden party's leaf.
 -- Assumes nothing.
-use mathlib.Core.Path.{◌≡◌, ap, ◌∙◌}
-use mathlib.Core.List.{List, ◌++◌, flatten}
-use Prim.Native.Nat.{ℕ, ◌-◌, ◌*◌, ◌≤◌}
-use native.Mathlib.Omega.{arith}
+use mathlib.Core.Path.{◌≡◌}
+use mathlib.Core.List.{◌++◌, flatten}
+use Prim.Native.Nat.{◌-◌, ◌*◌, ◌≤◌}
 use lib.ListN.{length, take, drop}
-use Rattle.memory.proofs.Lists.{room}
 use Rattle.tree.specs.Tree.{children, on_way, path_at}
-use Rattle.tree.proofs.Positions.{position-shift}
-use Rattle.tree.proofs.Walking.{on_way_turn, path_none, path_turn, path-whole, leaf_copied, root-first}
-use borrow.Author.Rules.{rules}
 use Rattle.tree.proofs.walk.Given as goal
 
 abbrev pub invariant-loop-k : goal.invariant-loop-k

@@ -1,13 +1,12 @@
 -- `turning::to_lanes` meets its contract. The invariant: every group of sixteen words that ends at or before the place reached is turned.
 -- Assumes nothing.
 use mathlib.Core.Path.{◌≡◌, refl, ◌∙◌}
-use Prim.Native.Nat.{◌+◌, ◌-◌, ◌%◌, ◌≤◌}
+use Prim.Native.Nat.{◌+◌, ◌-◌, ◌≤◌}
 use native.Mathlib.Omega.{arith}
 use lib.ListN.{length, drop, length-drop}
 use lib.Seq.{length-take-le}
 use Rattle.memory.proofs.Parts.{length_back}
-use Rattle.turning.proofs.Groups.{TurnedTo, turned_none, turned_more, turned_all}
-use borrow.Author.Rules.{rules}
+use Rattle.turning.proofs.Groups.{turned_none, turned_more, turned_all}
 use Rattle.turning.proofs.to_lanes.Goals as goal
 
 pub loop-at-init : goal.loop-at-init

@@ -5,7 +5,6 @@ use native.Mathlib.Omega.{arith}
 use Rattle.memory.proofs.Stores.{over-whole}
 use Rattle.turning.specs.Turns.{Transposed}
 use Rattle.turning.proofs.Stages.{four_stages}
-use borrow.Author.Rules.{rules}
 use Rattle.turning.proofs.transpose.Goals as goal
 
 pub returns : goal.returns

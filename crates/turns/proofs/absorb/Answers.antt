@@ -1,6 +1,5 @@
 -- `turns::absorb` meets its contract: one hash after the other.
 -- Assumes nothing.
-use borrow.Author.Rules.{rules}
 use Rattle.turns.proofs.absorb.Goals as goal
 
 pub returns : goal.returns

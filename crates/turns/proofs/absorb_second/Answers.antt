@@ -12,7 +12,6 @@ use Rattle.turns.proofs.Reading.{values_cut}
 use Rattle.turns.proofs.Turning.{answered_as, salt_is, rooms_length, rooms_circuit, rooms_leaves, rooms_back_front, rooms_back_held, rooms_back_rest}
 use Rattle.reps.proofs.Laws.{rep_sized, rep_some}
 use Rattle.turns.proofs.Answering.{rep_variables, rep_equations, rep_values, rep_circuit, rep_leaves, rep_front, rep_rooms, rep_holds}
-use borrow.Author.Rules.{rules}
 use Rattle.turns.proofs.absorb_second.Goals as goal
 
 pub slice_bounds-answers-end : goal.slice_bounds-answers-end
@@ -49,12 +48,15 @@ returns c =
     let w = c.args.work.now in
     let l = c.layout_of-layout.ensures.roots in
     let r = c.rep_of-rep.ensures in
-    let a = c.answers in record { answered = λ key is v leaves h.
+    let a = c.answers in record {
+      answered = λ key is v leaves h.
           a.ensures.absorbs p (f p key) (rep_variables p fit _ _ _ r) (rep_equations p fit _ _ _ r) (rep_holds p fit _ _ _ r (f p key) _ _ (rooms_circuit p w c.requires.6 _ l _ (rep_circuit p fit _ _ _ r)) h)
           ∙ ap (absorbed c.args.hash)
           (answered_as p fit key x c.requires.3 c.args.e c.requires.1 c.requires.2 _ c.args.party _ c.args.values.now _ r is (salt_is p x)
-          (rooms_leaves p w c.requires.6 _ l _ _ (rep_circuit p fit _ _ _ r) (rep_leaves p fit _ _ _ r) ∙ leaves) (values_cut p key x c.args.e c.requires.1 c.requires.2 c.args.values.now c.requires.4 v)); left = record {
+          (rooms_leaves p w c.requires.6 _ l _ _ (rep_circuit p fit _ _ _ r) (rep_leaves p fit _ _ _ r) ∙ leaves) (values_cut p key x c.args.e c.requires.1 c.requires.2 c.args.values.now c.requires.4 v));
+      left = record {
         front = rooms_back_front p w c.requires.6 _ l a.new.work a.auto.work _ (rep_front p fit _ _ _ r) a.ensures.kept;
         room = rooms_back_held p w c.requires.6 _ l a.new.work a.auto.work _ _ _ _ _ r (salt_is p x) (rep_circuit p fit _ _ _ r) (rep_leaves p fit _ _ _ r) a.ensures.room;
         rest = rooms_back_rest p w c.requires.6 _ l a.new.work a.auto.work;
-      } }
+      };
+    }

@@ -12,7 +12,6 @@ use Rattle.turns.specs.Turns.{challenges_part}
 use Rattle.biscuit.proofs.Room.{hidden_from_one, hidden-within}
 use Rattle.turns.proofs.Reading.{read_elements_small, values_are}
 use Rattle.turns.proofs.Turning.{length_of_leaves, put-circuit, put-leaves, answered-same}
-use borrow.Author.Rules.{rules}
 use Rattle.turns.proofs.turn_in.Goals as goal
 
 pub rebuild-requires : goal.rebuild-requires

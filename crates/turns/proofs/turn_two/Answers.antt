@@ -6,7 +6,6 @@ use native.Mathlib.Omega.{arith}
 use Rattle.sets.specs.Sets.{S}
 use Rattle.answers.proofs.Turning.{zeros_sized}
 use Rattle.turns.proofs.Sizes.{sixteen-leaves}
-use borrow.Author.Rules.{rules}
 use Rattle.turns.proofs.turn_two.Goals as goal
 
 pub overflow_mul-l : goal.overflow_mul-l

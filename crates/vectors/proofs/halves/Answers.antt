@@ -2,10 +2,9 @@
 -- Assumes nothing.
 use mathlib.Core.Path.{◌≡◌, sym, ap, ◌∙◌}
 use mathlib.Core.List.{◌++◌}
-use Prim.Native.Nat.{ℕ, ◌+◌, ◌*◌, ◌-◌, ◌/◌, ◌%◌, ◌≤◌}
+use Prim.Native.Nat.{ℕ, ◌+◌, ◌*◌, ◌/◌, ◌%◌}
 use native.Mathlib.Omega.{arith}
 use lib.ListN.{length, get_or, take, drop, length-set}
-use borrow.Author.Rules.{rules}
 use Rattle.memory.proofs.Xors.{written_more, written_all}
 use Rattle.field.specs.Packing.{unpack}
 use Rattle.field.proofs.Packing.{length-unpack, get_or-unpack, nib-even, nib_odd}

@@ -1,14 +1,10 @@
 -- `vectors::halves` meets its contract. The invariant: the elements of the first k bytes are written, and the entries behind them are as they were.
 -- Assumes nothing.
-use mathlib.Core.Path.{◌≡◌, sym, ap, ◌∙◌}
+use mathlib.Core.Path.{◌≡◌}
 use mathlib.Core.List.{◌++◌}
-use Prim.Native.Nat.{ℕ, ◌+◌, ◌*◌, ◌-◌, ◌/◌, ◌%◌, ◌≤◌}
-use native.Mathlib.Omega.{arith}
-use lib.ListN.{length, get_or, take, drop, length-set}
-use borrow.Author.Rules.{rules}
-use Rattle.memory.proofs.Xors.{written_more, written_all}
+use Prim.Native.Nat.{◌*◌, ◌-◌, ◌≤◌}
+use lib.ListN.{length, take, drop}
 use Rattle.field.specs.Packing.{unpack}
-use Rattle.field.proofs.Packing.{length-unpack, get_or-unpack, nib-even, nib_odd}
 use Rattle.vectors.proofs.halves.Given as goal
 
 abbrev pub invariant-loop-k : goal.invariant-loop-k

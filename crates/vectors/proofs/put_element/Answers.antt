@@ -1,8 +1,6 @@
 -- `vectors::put_element` meets its contract: in the low half of a byte, and in the high half.
 -- Assumes nothing.
-use Prim.Native.Nat.{◌/◌}
 use native.Mathlib.Omega.{arith}
-use borrow.Author.Rules.{rules}
 use Rattle.vectors.proofs.Laying.{low_put, high_put}
 use Rattle.vectors.proofs.put_element.Goals as goal
 

@@ -5,7 +5,6 @@ use Prim.Native.Nat.{ℕ}
 use lib.ListN.{length}
 use Rattle.vectors.specs.Elements.{ReadTo}
 use Rattle.vectors.proofs.Elements.{read_all}
-use borrow.Author.Rules.{rules}
 use Rattle.vectors.proofs.read_elements.Goals as goal
 
 pub returns : goal.returns

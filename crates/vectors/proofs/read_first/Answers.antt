@@ -5,7 +5,6 @@ use Prim.Native.Nat.{◌+◌}
 use native.Mathlib.Omega.{arith}
 use Rattle.field.specs.Packing.{nib}
 use Rattle.vectors.proofs.Elements.{read_more}
-use borrow.Author.Rules.{rules}
 use Rattle.vectors.proofs.read_first.Goals as goal
 
 pub returns-then-at-eq0 : goal.returns-then-at-eq0

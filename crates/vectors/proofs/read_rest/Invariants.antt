@@ -1,12 +1,9 @@
 -- `vectors::read_rest` meets its contract. The invariant: what was read before is read still, and the entries up to i are.
 -- Assumes nothing.
-use mathlib.Core.Path.{◌≡◌, refl, subst}
-use Prim.Native.Nat.{ℕ, ◌-◌, ◌≤◌}
-use native.Mathlib.Omega.{arith}
-use lib.ListN.{length, length-set}
+use mathlib.Core.Path.{◌≡◌}
+use Prim.Native.Nat.{◌-◌, ◌≤◌}
+use lib.ListN.{length}
 use Rattle.vectors.specs.Elements.{ReadTo}
-use Rattle.vectors.proofs.Elements.{read_more}
-use borrow.Author.Rules.{rules}
 use Rattle.vectors.proofs.read_rest.Given as goal
 
 abbrev pub invariant-loop-i : goal.invariant-loop-i

@@ -5,7 +5,6 @@ use Prim.Native.Nat.{ℕ, ◌+◌, ◌*◌, ◌/◌, ◌≤◌}
 use lib.ListN.{length}
 use Rattle.memory.proofs.Parts.{length-lent}
 use Rattle.vectors.proofs.Elements.{read_part, whole_fits, whole_size, whole-even}
-use borrow.Author.Rules.{rules}
 use Rattle.vectors.proofs.read_whole.Goals as goal
 
 le-add : (i n : ℕ) → i ≤ i + n

@@ -1,10 +1,7 @@
 -- `vectors::write_elements` meets its contract. The invariant: the first i elements are written, and every other half byte is as it was.
 -- Assumes nothing.
-use Prim.Native.Nat.{◌-◌, ◌≤◌}
 use native.Mathlib.Omega.{arith}
-use lib.ListN.{length}
-use borrow.Author.Rules.{rules}
-use Rattle.vectors.proofs.Laying.{Laid, laid_none, laid_more, laid_all}
+use Rattle.vectors.proofs.Laying.{laid_none, laid_more, laid_all}
 use Rattle.vectors.proofs.write_elements.Goals as goal
 
 pub loop-i-init : goal.loop-i-init

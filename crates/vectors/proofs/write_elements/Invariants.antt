@@ -1,10 +1,8 @@
 -- `vectors::write_elements` meets its contract. The invariant: the first i elements are written, and every other half byte is as it was.
 -- Assumes nothing.
 use Prim.Native.Nat.{◌-◌, ◌≤◌}
-use native.Mathlib.Omega.{arith}
 use lib.ListN.{length}
-use borrow.Author.Rules.{rules}
-use Rattle.vectors.proofs.Laying.{Laid, laid_none, laid_more, laid_all}
+use Rattle.vectors.proofs.Laying.{Laid}
 use Rattle.vectors.proofs.write_elements.Given as goal
 
 abbrev pub invariant-loop-i : goal.invariant-loop-i

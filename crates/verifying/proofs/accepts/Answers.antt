@@ -2,7 +2,6 @@
 -- Assumes nothing.
 use Rattle.answers.proofs.Turning.{zeros_sized}
 use native.Mathlib.Omega.{arith}
-use borrow.Author.Rules.{rules}
 use Rattle.verifying.proofs.accepts.Goals as goal
 
 pub accepts_in-requires : goal.accepts_in-requires

@@ -5,7 +5,6 @@ use Prim.Native.Nat.{ℕ, ◌≤◌}
 use Rattle.biscuit.specs.Keys.{public_key_of}
 use Rattle.biscuit.specs.Room.{room_end}
 use Rattle.biscuit.specs.Verify.{accepts}
-use borrow.Author.Rules.{rules}
 use Rattle.verifying.proofs.accepts_in.Goals as goal
 
 pub repetitions-both-requires : goal.repetitions-both-requires

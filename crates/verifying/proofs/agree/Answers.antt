@@ -6,7 +6,6 @@ use Prim.Native.Nat.{◌+◌, ◌*◌, ◌/◌}
 use Rattle.sets.specs.Sets.{S}
 use Rattle.turns.proofs.Sizes.{head_fits}
 use Rattle.verifying.proofs.Hashing.{hash_short, first_compared, second_compared, first_agrees_lem, first-differs}
-use borrow.Author.Rules.{rules}
 use Rattle.verifying.proofs.agree.Goals as goal
 
 pub slice_bounds-agrees-end : goal.slice_bounds-agrees-end

@@ -3,7 +3,6 @@
 use mathlib.Core.Path.{ap, ap₂, ◌∙◌}
 use Rattle.memory.specs.Lists.{same}
 use Rattle.sponge.specs.Steps.{given}
-use borrow.Author.Rules.{rules}
 use Rattle.verifying.proofs.agrees_in.Goals as goal
 
 pub returns : goal.returns

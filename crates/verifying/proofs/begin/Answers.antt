@@ -6,7 +6,6 @@ use native.Mathlib.Omega.{arith}
 use Rattle.sets.specs.Sets.{S}
 use Rattle.turns.proofs.Sizes.{head_fits}
 use Rattle.verifying.proofs.Hashing.{first_begun, second_begun}
-use borrow.Author.Rules.{rules}
 use Rattle.verifying.proofs.begin.Goals as goal
 
 pub slice_bounds-first-end : goal.slice_bounds-first-end

@@ -7,7 +7,6 @@ use Rattle.sets.specs.Sets.{S}
 use Rattle.biscuit.proofs.Room.{mapped}
 use Rattle.turns.proofs.Sizes.{head_fits, seed_fits}
 use Rattle.verifying.proofs.Expanding.{first-length, second-length, circuit_there, challenges_there, holds_circuit, holds_challenge, holds_hidden}
-use borrow.Author.Rules.{rules}
 use Rattle.verifying.proofs.expand.Goals as goal
 
 pub slice_bounds-tape_bytes-end : goal.slice_bounds-tape_bytes-end

@@ -1,7 +1,6 @@
 -- `verifying::pair_count` meets its contract. Assumes nothing.
 use mathlib.Core.Path.{sym, ◌∙◌}
 use Rattle.verifying.proofs.Counting.{pairs_of_sixteen, pairs_of_more}
-use borrow.Author.Rules.{rules}
 use Rattle.verifying.proofs.pair_count.Goals as goal
 
 pub returns-then-groups_of-eq1 : goal.returns-then-groups_of-eq1

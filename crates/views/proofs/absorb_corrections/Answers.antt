@@ -5,7 +5,6 @@ use Rattle.field.specs.Packing.{pack}
 use Rattle.sponge.specs.declared.Sponge.{Sponge}
 use Rattle.sponge.specs.Steps.{absorbed}
 use Rattle.sponge.proofs.Laws.{absorbed-append}
-use borrow.Author.Rules.{rules}
 use Rattle.views.proofs.absorb_corrections.Goals as goal
 
 pub returns : goal.returns

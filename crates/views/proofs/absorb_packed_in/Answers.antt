@@ -2,7 +2,6 @@
 -- Assumes nothing.
 use native.Mathlib.Omega.{arith}
 use Rattle.views.proofs.Absorbing.{absorbed_packed}
-use borrow.Author.Rules.{rules}
 use Rattle.views.proofs.absorb_packed_in.Goals as goal
 
 pub returns : goal.returns

@@ -1,14 +1,10 @@
 -- `views::add` meets its contract. The invariant: the first i bytes are those of the sum, and the others are as they were.
 -- Assumes nothing.
-use mathlib.Core.Path.{◌≡◌, ◌∙◌}
+use mathlib.Core.Path.{◌≡◌}
 use mathlib.Core.List.{◌++◌}
 use Prim.Native.Nat.{◌-◌, ◌≤◌}
-use native.Mathlib.Omega.{arith}
-use lib.ListN.{length, take, drop, length-set}
+use lib.ListN.{length, take, drop}
 use Rattle.field.specs.Vectors.{◌⊕◌}
-use Rattle.memory.proofs.Xors.{written_all}
-use Rattle.views.proofs.Entries.{length-sum, sum-entry}
-use borrow.Author.Rules.{rules}
 use Rattle.views.proofs.add.Given as goal
 
 abbrev pub invariant-loop-i : goal.invariant-loop-i

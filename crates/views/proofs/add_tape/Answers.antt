@@ -7,7 +7,6 @@ use lib.ListN.{length}
 use Rattle.field.specs.Vectors.{◌⊕◌}
 use Rattle.hashes.specs.Hashes.{expand_tape}
 use Rattle.memory.proofs.Xors.{part-sized}
-use borrow.Author.Rules.{rules}
 use Rattle.views.proofs.add_tape.Goals as goal
 
 pub returns : goal.returns

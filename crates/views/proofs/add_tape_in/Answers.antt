@@ -1,7 +1,6 @@
 -- `views::add_tape_in` meets its contract: what is added is the part of the room that was filled.
 -- Assumes nothing.
 use Rattle.views.proofs.Entries.{added-tape}
-use borrow.Author.Rules.{rules}
 use Rattle.views.proofs.add_tape_in.Goals as goal
 
 pub returns : goal.returns

@@ -1,19 +1,11 @@
 -- `views::commit_all` meets its contract. The invariant: the hash has absorbed the commitments of the first i parties. It is said of every sponge from which
 -- the first turn can have come, since the code does not hold the one it began with. Assumes nothing.
-use mathlib.Core.Path.{◌≡◌}
-use mathlib.Core.List.{flatten}
-use Prim.Native.Nat.{◌-◌, ◌≤◌, ◌<◌}
+use Prim.Native.Nat.{◌<◌}
 use native.Mathlib.Omega.{arith}
-use lib.ListN.{take}
-use Rattle.memory.specs.Sections.{pieces}
 use Rattle.memory.proofs.Lists.{room}
-use Rattle.sponge.specs.declared.Sponge.{Sponge}
-use Rattle.sponge.specs.Steps.{absorbed}
 use Rattle.hashes.specs.Hashes.{commit}
-use Rattle.parties.specs.Parties.{parties}
 use Rattle.parties.specs.Repetition.{given_at}
 use Rattle.views.proofs.Absorbing.{absorbed-party, absorbed-first-party, absorbed_all_parties}
-use borrow.Author.Rules.{rules}
 use Rattle.views.proofs.commit_all.Goals as goal
 
 pub commit_at-next-requires : goal.commit_at-next-requires

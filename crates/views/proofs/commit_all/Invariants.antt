@@ -3,17 +3,13 @@
 use mathlib.Core.Path.{◌≡◌}
 use mathlib.Core.List.{flatten}
 use Prim.Native.Nat.{◌-◌, ◌≤◌, ◌<◌}
-use native.Mathlib.Omega.{arith}
 use lib.ListN.{take}
 use Rattle.memory.specs.Sections.{pieces}
-use Rattle.memory.proofs.Lists.{room}
 use Rattle.sponge.specs.declared.Sponge.{Sponge}
 use Rattle.sponge.specs.Steps.{absorbed}
 use Rattle.hashes.specs.Hashes.{commit}
 use Rattle.parties.specs.Parties.{parties}
 use Rattle.parties.specs.Repetition.{given_at}
-use Rattle.views.proofs.Absorbing.{absorbed-party, absorbed-first-party, absorbed_all_parties}
-use borrow.Author.Rules.{rules}
 use Rattle.views.proofs.commit_all.Given as goal
 
 abbrev pub invariant-loop-i : goal.invariant-loop-i

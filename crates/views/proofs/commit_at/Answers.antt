@@ -7,7 +7,6 @@ use lib.ListN.{take, drop}
 use Rattle.sponge.specs.Steps.{absorbed}
 use Rattle.hashes.specs.Hashes.{commit}
 use Rattle.views.proofs.Absorbing.{given_there, given_elsewhere, commit-part}
-use borrow.Author.Rules.{rules}
 use Rattle.views.proofs.commit_at.Goals as goal
 
 pub returns-then-i-hidden : goal.returns-then-i-hidden

@@ -3,7 +3,6 @@
 use mathlib.Core.Path.{refl}
 use native.Mathlib.Omega.{arith}
 use Rattle.views.proofs.Absorbing.{absorbed-commitment}
-use borrow.Author.Rules.{rules}
 use Rattle.views.proofs.commit_in.Goals as goal
 
 pub returns : goal.returns

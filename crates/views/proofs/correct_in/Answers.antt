@@ -7,7 +7,6 @@ use Rattle.memory.specs.Sections.{pieces}
 use Rattle.parties.specs.Repetition.{tape_length}
 use Rattle.views.specs.Views.{correction_s, correction_c}
 use Rattle.views.proofs.Sums.{summed_start}
-use borrow.Author.Rules.{rules}
 use Rattle.views.proofs.correct_in.Goals as goal
 
 pub returns : goal.returns

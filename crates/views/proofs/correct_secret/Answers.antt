@@ -1,14 +1,11 @@
 -- `views::correct_secret` meets its contract. The invariant: the first k entries are those of Δs, and the others are as they were.
 -- Assumes nothing.
-use mathlib.Core.Path.{◌≡◌, ◌∙◌}
-use mathlib.Core.List.{◌++◌}
-use Prim.Native.Nat.{◌-◌, ◌≤◌}
+use mathlib.Core.Path.{◌∙◌}
 use native.Mathlib.Omega.{arith}
-use lib.ListN.{length, take, drop, length-set}
+use lib.ListN.{length, length-set}
 use Rattle.views.specs.Views.{correction_s}
 use Rattle.memory.proofs.Xors.{written_more, written_all}
 use Rattle.views.proofs.Entries.{length-correction_s, secret-entry}
-use borrow.Author.Rules.{rules}
 use Rattle.views.proofs.correct_secret.Goals as goal
 
 pub bounds-ds-k : goal.bounds-ds-k

@@ -1,14 +1,10 @@
 -- `views::correct_secret` meets its contract. The invariant: the first k entries are those of Δs, and the others are as they were.
 -- Assumes nothing.
-use mathlib.Core.Path.{◌≡◌, ◌∙◌}
+use mathlib.Core.Path.{◌≡◌}
 use mathlib.Core.List.{◌++◌}
 use Prim.Native.Nat.{◌-◌, ◌≤◌}
-use native.Mathlib.Omega.{arith}
-use lib.ListN.{length, take, drop, length-set}
+use lib.ListN.{length, take, drop}
 use Rattle.views.specs.Views.{correction_s}
-use Rattle.memory.proofs.Xors.{written_more, written_all}
-use Rattle.views.proofs.Entries.{length-correction_s, secret-entry}
-use borrow.Author.Rules.{rules}
 use Rattle.views.proofs.correct_secret.Given as goal
 
 abbrev pub invariant-loop-k : goal.invariant-loop-k

@@ -3,7 +3,6 @@
 use mathlib.Core.Path.{◌∙◌}
 use lib.ListN.{length}
 use Rattle.views.proofs.Entries.{correction_c_at}
-use borrow.Author.Rules.{rules}
 use Rattle.views.proofs.corrections.Goals as goal
 
 pub returns : goal.returns

@@ -2,7 +2,6 @@
 use mathlib.Core.Path.{refl}
 use native.Mathlib.Omega.{arith}
 use Rattle.field.specs.Packing.{packed_length}
-use borrow.Author.Rules.{rules}
 use Rattle.views.proofs.packed_length.Goals as goal
 
 pub returns : goal.returns

@@ -13,7 +13,6 @@ use Rattle.sets.specs.Sets.{S}
 use Rattle.parties.specs.Repetition.{delta_s, delta_c}
 use Rattle.views.proofs.Absorbing.{absorbed-first}
 use Rattle.views.proofs.Sums.{corrected-secret, corrected-helper}
-use borrow.Author.Rules.{rules}
 use Rattle.views.proofs.repetition_first.Goals as goal
 
 pub commit_all-next-requires : goal.commit_all-next-requires

@@ -1,15 +1,13 @@
 -- `views::sum_tapes` meets its contract. The invariant: the bytes are the sum of the tapes of the first i parties.
 -- Assumes nothing.
 use mathlib.Core.Path.{◌≡◌, ap, ◌∙◌}
-use Prim.Native.Nat.{ℕ, ◌-◌, ◌≤◌, ◌<◌}
+use Prim.Native.Nat.{ℕ, ◌<◌}
 use native.Mathlib.Omega.{arith}
-use lib.ListN.{length, take, replicate}
+use lib.ListN.{length}
 use Rattle.memory.specs.Sections.{pieces}
 use Rattle.memory.proofs.Lists.{room}
-use Rattle.field.specs.Vectors.{◌⊕◌, total}
-use Rattle.views.specs.Views.{tapes, tape_sum}
+use Rattle.views.specs.Views.{tape_sum}
 use Rattle.views.proofs.Sums.{sum_none, sum_more, sum_all}
-use borrow.Author.Rules.{rules}
 use Rattle.views.proofs.sum_tapes.Goals as goal
 
 pub loop-i-init : goal.loop-i-init

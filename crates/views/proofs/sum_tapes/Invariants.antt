@@ -1,15 +1,11 @@
 -- `views::sum_tapes` meets its contract. The invariant: the bytes are the sum of the tapes of the first i parties.
 -- Assumes nothing.
-use mathlib.Core.Path.{◌≡◌, ap, ◌∙◌}
-use Prim.Native.Nat.{ℕ, ◌-◌, ◌≤◌, ◌<◌}
-use native.Mathlib.Omega.{arith}
+use mathlib.Core.Path.{◌≡◌}
+use Prim.Native.Nat.{◌-◌, ◌≤◌}
 use lib.ListN.{length, take, replicate}
 use Rattle.memory.specs.Sections.{pieces}
-use Rattle.memory.proofs.Lists.{room}
 use Rattle.field.specs.Vectors.{◌⊕◌, total}
-use Rattle.views.specs.Views.{tapes, tape_sum}
-use Rattle.views.proofs.Sums.{sum_none, sum_more, sum_all}
-use borrow.Author.Rules.{rules}
+use Rattle.views.specs.Views.{tapes}
 use Rattle.views.proofs.sum_tapes.Given as goal
 
 abbrev pub invariant-loop-i : goal.invariant-loop-i

@@ -2,7 +2,6 @@
 use native.Mathlib.Omega.{arith}
 use Rattle.field.specs.Packing.{packed_length}
 use Rattle.parties.specs.Repetition.{tape_length}
-use borrow.Author.Rules.{rules}
 use Rattle.views.proofs.tape_length.Goals as goal
 
 pub returns : goal.returns

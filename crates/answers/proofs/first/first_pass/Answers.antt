@@ -3,12 +3,9 @@
 -- Assumes nothing.
 use mathlib.Core.Path.{◌≡◌, refl, ◌∙◌}
 use native.Mathlib.Omega.{arith}
-use mathlib.Core.List.{flatten}
-use Prim.Native.Nat.{◌+◌, ◌-◌, ◌*◌, ◌≤◌}
-use lib.ListN.{length, take, drop}
-use Rattle.field.specs.Packing.{pack}
-use Rattle.answers.specs.Passes.{circuit_of, leaves_of, room_at, alphas_of, second_forms_of, rests_of, Passed}
-use Rattle.answers.proofs.Absorbing.{Absorbing, absorbing_start, absorbing_group, absorbing_two, absorbing-end}
+use Prim.Native.Nat.{◌+◌, ◌*◌}
+use Rattle.answers.specs.Passes.{circuit_of, leaves_of, room_at, alphas_of}
+use Rattle.answers.proofs.Absorbing.{absorbing_start, absorbing_group, absorbing_two, absorbing-end}
 use Rattle.answers.proofs.Passing.{passed_none, passed_more, passed_two, passed_at}
 use Rattle.answers.proofs.Sizes.{length-alphas, alphas-vectors}
 use Rattle.answers.proofs.Work.{part_same, turn_front, two_turns_front}
@@ -70,9 +67,13 @@ returns-then-g-groups c =
     let e : l.g + 1 ≡ r.groups = omega arith in
     let t = c.turn in
     let n = length-alphas r c.args.salt.now (leaves_of r w) c.args.values.now c.requires.3 (circuit_of r w) in
-    let same = turn_front r l.g _ _ l.work w _ _ _ _ _ _ _ _ _ i.7 t.ensures.turned in record { absorbs = absorbing-end _ (l.g + 1) _ _ (omega arith) (omega arith)
-          (absorbing_group r.m _ (alphas-vectors r c.args.salt.now (leaves_of r w) c.args.values.now c.requires.3 (circuit_of r w)) l.g (omega arith) _ _ _ i.5 same.absorbs); keeps = passed_at _ _ _ _ _ _ _ _ _ _ e
-            (passed_more l.g r.m (room_at r) _ _ _ _ _ _ _ _ _ _ _ l.work t.new.work t.ensures.kept i.6 same); kept = part_same t.new.work l.work 0 (room_at r) (room_at r + l.g * (16 * r.m)) (omega arith) t.ensures.kept ∙ i.7 }
+    let same = turn_front r l.g _ _ l.work w _ _ _ _ _ _ _ _ _ i.7 t.ensures.turned in record {
+      absorbs = absorbing-end _ (l.g + 1) _ _ (omega arith) (omega arith)
+          (absorbing_group r.m _ (alphas-vectors r c.args.salt.now (leaves_of r w) c.args.values.now c.requires.3 (circuit_of r w)) l.g (omega arith) _ _ _ i.5 same.absorbs);
+      keeps = passed_at _ _ _ _ _ _ _ _ _ _ e
+          (passed_more l.g r.m (room_at r) _ _ _ _ _ _ _ _ _ _ _ l.work t.new.work t.ensures.kept i.6 same);
+      kept = part_same t.new.work l.work 0 (room_at r) (room_at r + l.g * (16 * r.m)) (omega arith) t.ensures.kept ∙ i.7;
+    }
 
 pub returns : goal.returns
 returns c =

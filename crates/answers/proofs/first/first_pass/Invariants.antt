@@ -1,17 +1,13 @@
 -- `answers::first::first_pass` meets its contract. The invariant: the α of g groups are absorbed, the sums are over their parties, what was kept of them stays, and the work begins as it did.
 -- The groups are taken two at a time, and one that is left over by itself.
 -- Assumes nothing.
-use mathlib.Core.Path.{◌≡◌, refl, ◌∙◌}
-use native.Mathlib.Omega.{arith}
+use mathlib.Core.Path.{◌≡◌}
 use mathlib.Core.List.{flatten}
-use Prim.Native.Nat.{◌+◌, ◌-◌, ◌*◌, ◌≤◌}
+use Prim.Native.Nat.{◌-◌, ◌*◌, ◌≤◌}
 use lib.ListN.{length, take, drop}
 use Rattle.field.specs.Packing.{pack}
 use Rattle.answers.specs.Passes.{circuit_of, leaves_of, room_at, alphas_of, second_forms_of, rests_of, Passed}
-use Rattle.answers.proofs.Absorbing.{Absorbing, absorbing_start, absorbing_group, absorbing_two, absorbing-end}
-use Rattle.answers.proofs.Passing.{passed_none, passed_more, passed_two, passed_at}
-use Rattle.answers.proofs.Sizes.{length-alphas, alphas-vectors}
-use Rattle.answers.proofs.Work.{part_same, turn_front, two_turns_front}
+use Rattle.answers.proofs.Absorbing.{Absorbing}
 use Rattle.answers.proofs.first.first_pass.Given as goal
 
 abbrev pub invariant-loop-g : goal.invariant-loop-g

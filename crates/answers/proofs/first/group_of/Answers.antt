@@ -1,6 +1,5 @@
 -- `answers::first::group_of` meets its contract: the two parts are the leaves and the circuit. Assumes nothing.
 use Rattle.answers.proofs.Work.{circuit-sized, leaves-sized, group_held}
-use borrow.Author.Rules.{rules}
 use Rattle.answers.proofs.first.group_of.Goals as goal
 
 pub group-requires : goal.group-requires

@@ -3,7 +3,6 @@ use mathlib.Core.Path.{refl}
 use native.Mathlib.Omega.{arith}
 use Prim.Native.Nat.{◌+◌}
 use Rattle.answers.proofs.Work.{circuit-sized, leaves-sized, group_held}
-use borrow.Author.Rules.{rules}
 use Rattle.answers.proofs.first.groups_of.Goals as goal
 
 pub overflow_add-g : goal.overflow_add-g

@@ -1,7 +1,6 @@
 -- `answers::first::room_at` meets its contract: the circuit and the leaves are small. Assumes nothing.
 use native.Mathlib.Omega.{arith}
 use Rattle.answers.proofs.Work.{circuit_bound, leaves_bound}
-use borrow.Author.Rules.{rules}
 use Rattle.answers.proofs.first.room_at.Goals as goal
 
 pub overflow_mul-result-2 : goal.overflow_mul-result-2

@@ -3,7 +3,6 @@
 use mathlib.Core.Path.{refl}
 use lib.ListN.{length}
 use Rattle.answers.proofs.Turning.{summed, held_group}
-use borrow.Author.Rules.{rules}
 use Rattle.answers.proofs.first.taken.Goals as goal
 
 pub returns : goal.returns

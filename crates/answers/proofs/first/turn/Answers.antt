@@ -3,7 +3,6 @@
 use native.Mathlib.Omega.{arith}
 use Rattle.answers.specs.Passes.{circuit_of, leaves_of}
 use Rattle.answers.proofs.Turning.{zeros_sized, lent_same, lent-sized, lent_fits, answers_same}
-use borrow.Author.Rules.{rules}
 use Rattle.answers.proofs.first.turn.Goals as goal
 
 pub slice_bounds-x-end : goal.slice_bounds-x-end
@@ -46,5 +45,8 @@ returns c =
     let r = c.args.rep in
     let w = c.args.work.now in
     let g = c.group_of in
-    let t = c.taken_at in record { turned = t.ensures.turned (circuit_of r w) c.args.salt.now (leaves_of r w) c.args.values.now c.requires.3
-          (answers_same r c.args.g _ _ _ _ _ _ _ _ _ (lent_same 121 c.args.rep.m g.new.x c.requires.0.equations g.auto.x) (lent_same 121 c.args.rep.m g.new.y c.requires.0.equations g.auto.y) (lent_same 121 c.args.rep.m g.new.z c.requires.0.equations g.auto.z) g.ensures); kept = t.ensures.kept }
+    let t = c.taken_at in record {
+      turned = t.ensures.turned (circuit_of r w) c.args.salt.now (leaves_of r w) c.args.values.now c.requires.3
+          (answers_same r c.args.g _ _ _ _ _ _ _ _ _ (lent_same 121 c.args.rep.m g.new.x c.requires.0.equations g.auto.x) (lent_same 121 c.args.rep.m g.new.y c.requires.0.equations g.auto.y) (lent_same 121 c.args.rep.m g.new.z c.requires.0.equations g.auto.z) g.ensures);
+      kept = t.ensures.kept;
+    }

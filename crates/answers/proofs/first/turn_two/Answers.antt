@@ -6,7 +6,6 @@ use Prim.Native.Nat.{◌+◌}
 use Rattle.answers.specs.Passes.{circuit_of, leaves_of, room_at}
 use Rattle.answers.proofs.Turning.{zeros_sized, lent_same, lent-sized, lent_fits, answers_same}
 use Rattle.answers.proofs.Work.{two_turns, two_front}
-use borrow.Author.Rules.{rules}
 use Rattle.answers.proofs.first.turn_two.Goals as goal
 
 pub slice_bounds-x-end : goal.slice_bounds-x-end
@@ -84,8 +83,11 @@ returns c =
     let w = c.args.work.now in
     let g = c.groups_of in
     let t = c.taken_at-first in
-    let u = c.taken_at in record { turned = two_turns c.args.g r.m (room_at r) _ _ _ _ _ _ _ _ _ _ _ _ t.new.work u.new.work _ _ _ u.ensures.kept
+    let u = c.taken_at in record {
+      turned = two_turns c.args.g r.m (room_at r) _ _ _ _ _ _ _ _ _ _ _ _ t.new.work u.new.work _ _ _ u.ensures.kept
           (t.ensures.turned (circuit_of r w) c.args.salt.now (leaves_of r w) c.args.values.now c.requires.3
           (answers_same r c.args.g _ _ _ _ _ _ _ _ _ (lent_same 121 c.args.rep.m g.new.x c.requires.0.equations g.auto.x) (lent_same 121 c.args.rep.m g.new.y c.requires.0.equations g.auto.y) (lent_same 121 c.args.rep.m g.new.z c.requires.0.equations g.auto.z) g.ensures.first))
           (u.ensures.turned (circuit_of r w) c.args.salt.now (leaves_of r w) c.args.values.now c.requires.3
-          (answers_same r (c.args.g + 1) _ _ _ _ _ _ _ _ _ (lent_same 121 c.args.rep.m g.new.x2 c.requires.0.equations g.auto.x2) (lent_same 121 c.args.rep.m g.new.y2 c.requires.0.equations g.auto.y2) (lent_same 121 c.args.rep.m g.new.z2 c.requires.0.equations g.auto.z2) g.ensures.second)); kept = two_front c.args.g r.m (room_at r) w t.new.work u.new.work u.ensures.kept t.ensures.kept }
+          (answers_same r (c.args.g + 1) _ _ _ _ _ _ _ _ _ (lent_same 121 c.args.rep.m g.new.x2 c.requires.0.equations g.auto.x2) (lent_same 121 c.args.rep.m g.new.y2 c.requires.0.equations g.auto.y2) (lent_same 121 c.args.rep.m g.new.z2 c.requires.0.equations g.auto.z2) g.ensures.second));
+      kept = two_front c.args.g r.m (room_at r) w t.new.work u.new.work u.ensures.kept t.ensures.kept;
+    }

@@ -1,7 +1,6 @@
 -- `answers::packed::absorb_group` meets its contract. Room for the packed vectors is lent.
 -- Assumes nothing.
 use mathlib.Core.Path.{refl}
-use borrow.Author.Rules.{rules}
 use Rattle.answers.proofs.packed.absorb_group.Goals as goal
 
 pub absorb_packed-requires : goal.absorb_packed-requires

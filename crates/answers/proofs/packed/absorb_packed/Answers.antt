@@ -3,7 +3,6 @@
 use mathlib.Core.Path.{refl}
 use native.Mathlib.Omega.{arith}
 use Rattle.answers.proofs.Turning.{absorbed_packed}
-use borrow.Author.Rules.{rules}
 use Rattle.answers.proofs.packed.absorb_packed.Goals as goal
 
 pub returns : goal.returns

@@ -3,7 +3,6 @@
 use mathlib.Core.Path.{refl, sym, subst, ◌∙◌}
 use Rattle.field.specs.Packing.{Elements}
 use Rattle.answers.proofs.Turning.{zeros_sized, lent_same, lent-sized, lent_fits, folded_elements, folded_same, vs-same}
-use borrow.Author.Rules.{rules}
 use Rattle.answers.proofs.second.finish.Goals as goal
 
 pub slice_bounds-alpha-end : goal.slice_bounds-alpha-end

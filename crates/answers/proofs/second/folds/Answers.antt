@@ -2,7 +2,6 @@
 -- Assumes nothing.
 use mathlib.Core.Path.{refl}
 use Rattle.answers.proofs.Turning.{folded_sums}
-use borrow.Author.Rules.{rules}
 use Rattle.answers.proofs.second.folds.Goals as goal
 
 pub returns : goal.returns

@@ -1,14 +1,10 @@
 -- `answers::second::second_pass` meets its contract. The invariant: the v of g groups are absorbed.
 -- Assumes nothing.
 use native.Mathlib.Omega.{arith}
-use mathlib.Core.List.{List, flatten}
-use Prim.Native.Nat.{ℕ, ◌-◌, ◌*◌, ◌≤◌, ◌<◌}
-use lib.ListN.{take, drop}
+use Prim.Native.Nat.{◌*◌}
 use Rattle.memory.proofs.Lists.{room}
 use Rattle.memory.proofs.Xors.{length-sized}
-use Rattle.field.specs.Packing.{pack}
-use Rattle.answers.specs.Passes.{VsOf, HoldsGroup}
-use Rattle.answers.proofs.Absorbing.{Absorbing, absorbing_start, absorbing_group, absorbing-end}
+use Rattle.answers.proofs.Absorbing.{absorbing_start, absorbing_group, absorbing-end}
 use Rattle.answers.proofs.Turning.{vs-vectors, part_again}
 use Rattle.answers.proofs.second.second_pass.Goals as goal
 

@@ -5,7 +5,6 @@ use native.Mathlib.Omega.{arith}
 use Prim.Native.Nat.{ℕ, ◌≤◌}
 use Rattle.answers.specs.Passes.{VWords}
 use Rattle.answers.proofs.Turning.{zeros_sized, lent_same, lent-sized, lent_fits, v_packs}
-use borrow.Author.Rules.{rules}
 use Rattle.answers.proofs.second.v_turn.Goals as goal
 
 pub slice_bounds-y-end : goal.slice_bounds-y-end

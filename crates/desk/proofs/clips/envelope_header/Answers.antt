@@ -1,5 +1,4 @@
 -- `desk::clips::envelope_header` meets its contract: the header that reading gives. Assumes nothing.
-use borrow.Author.Rules.{rules}
 use mathlib.Core.Path.{ap}
 use Rattle.envelope.specs.declared.Reading.{Reading}
 use Rattle.desk.proofs.clips.envelope_header.Goals as goal

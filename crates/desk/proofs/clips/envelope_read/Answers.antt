@@ -1,5 +1,4 @@
 -- `desk::clips::envelope_read` meets its contract: the number that reading gives. Assumes nothing.
-use borrow.Author.Rules.{rules}
 use mathlib.Core.Path.{ap}
 use Rattle.envelope.specs.declared.Reading.{Reading}
 use Rattle.desk.proofs.clips.envelope_read.Goals as goal

@@ -1,5 +1,4 @@
 -- `envelope::fields::header_bytes` meets its contract: each byte is the byte of the header's fields. Assumes nothing.
-use borrow.Author.Rules.{rules}
 use mathlib.Core.Path.{sym}
 use Rattle.envelope.proofs.Heading.{header-bytes}
 use Rattle.envelope.proofs.fields.header_bytes.Goals as goal

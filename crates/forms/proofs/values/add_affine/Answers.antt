@@ -1,11 +1,11 @@
 -- `forms::values::add_affine` meets its contract. The invariant: the first k elements have their form added, the others are as they were, and the next row stands at `row`.
 -- Assumes nothing.
-use mathlib.Core.Path.{◌≡◌, refl, sym, ap, ap₂, ◌∙◌}
+use mathlib.Core.Path.{refl, sym, ap, ap₂, ◌∙◌}
 use mathlib.Core.List.{List, ◌++◌, append-nil}
-use Prim.Native.Nat.{ℕ, ◌≤◌, ◌+◌, ◌-◌, ◌*◌}
+use Prim.Native.Nat.{ℕ, ◌+◌, ◌*◌}
 use native.Mathlib.Omega.{arith}
 use lib.Bits.{bit_xor}
-use lib.ListN.{length, get_or, take, drop, set, length-set, drop_of_length-le}
+use lib.ListN.{length, get_or, drop, set, length-set, drop_of_length-le}
 use lib.Seq.{take_all}
 use Rattle.memory.proofs.Copied.{copied_rest, next_row}
 use Rattle.memory.proofs.Lists.{room}
@@ -17,7 +17,6 @@ use Rattle.forms.specs.Circuit.{affine}
 use Rattle.forms.specs.Room.{affine_in}
 use Rattle.forms.proofs.Evaluated.{length-added, added_at}
 use Rattle.forms.proofs.Room.{packed_holds, affine_two}
-use borrow.Author.Rules.{rules}
 use Rattle.forms.proofs.values.add_affine.Goals as goal
 
 pub loop-k-init : goal.loop-k-init

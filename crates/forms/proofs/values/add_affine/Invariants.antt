@@ -1,23 +1,13 @@
 -- `forms::values::add_affine` meets its contract. The invariant: the first k elements have their form added, the others are as they were, and the next row stands at `row`.
 -- Assumes nothing.
-use mathlib.Core.Path.{◌≡◌, refl, sym, ap, ap₂, ◌∙◌}
-use mathlib.Core.List.{List, ◌++◌, append-nil}
-use Prim.Native.Nat.{ℕ, ◌≤◌, ◌+◌, ◌-◌, ◌*◌}
-use native.Mathlib.Omega.{arith}
-use lib.Bits.{bit_xor}
-use lib.ListN.{length, get_or, take, drop, set, length-set, drop_of_length-le}
-use lib.Seq.{take_all}
-use Rattle.memory.proofs.Copied.{copied_rest, next_row}
-use Rattle.memory.proofs.Lists.{room}
-use Rattle.memory.proofs.Parts.{copied_more}
-use Rattle.field.specs.Packing.{packed_length, nib, unpack}
-use Rattle.field.specs.Vectors.{◌⊕◌, dot}
-use Rattle.field.proofs.Packing.{half_up}
+use mathlib.Core.Path.{◌≡◌}
+use mathlib.Core.List.{◌++◌}
+use Prim.Native.Nat.{◌≤◌, ◌+◌, ◌-◌, ◌*◌}
+use lib.ListN.{length, take, drop}
+use Rattle.field.specs.Packing.{packed_length}
+use Rattle.field.specs.Vectors.{◌⊕◌}
 use Rattle.forms.specs.Circuit.{affine}
 use Rattle.forms.specs.Room.{affine_in}
-use Rattle.forms.proofs.Evaluated.{length-added, added_at}
-use Rattle.forms.proofs.Room.{packed_holds, affine_two}
-use borrow.Author.Rules.{rules}
 use Rattle.forms.proofs.values.add_affine.Given as goal
 
 abbrev pub invariant-loop-k : goal.invariant-loop-k

@@ -1,7 +1,6 @@
 -- `forms::values::form` meets its contract: the constant and the row's product are what the callees give. Assumes nothing.
 use mathlib.Core.Path.{ap₂}
 use lib.Bits.{bit_xor}
-use borrow.Author.Rules.{rules}
 use Rattle.forms.proofs.values.form.Goals as goal
 
 pub returns : goal.returns

@@ -1,14 +1,13 @@
 -- `forms::values::row_product` meets its contract. The invariant: the sum is that of the first i products.
 -- Assumes nothing.
 use mathlib.Core.Path.{◌≡◌, refl, sym, ap, ◌∙◌}
-use Prim.Native.Nat.{ℕ, ◌≤◌, ◌+◌, ◌-◌, ◌*◌}
+use Prim.Native.Nat.{ℕ, ◌+◌, ◌*◌}
 use native.Mathlib.Omega.{arith}
 use lib.ListN.{length}
 use Rattle.field.specs.Packing.{nib}
 use Rattle.field.specs.Vectors.{◌!◌}
 use Rattle.field.specs.Sums.{dot_of}
 use Rattle.forms.proofs.Evaluated.{sum_more, row-dot}
-use borrow.Author.Rules.{rules}
 use Rattle.forms.proofs.values.row_product.Goals as goal
 
 pub loop-i-init : goal.loop-i-init

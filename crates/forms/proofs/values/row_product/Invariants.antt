@@ -1,14 +1,11 @@
 -- `forms::values::row_product` meets its contract. The invariant: the sum is that of the first i products.
 -- Assumes nothing.
-use mathlib.Core.Path.{◌≡◌, refl, sym, ap, ◌∙◌}
-use Prim.Native.Nat.{ℕ, ◌≤◌, ◌+◌, ◌-◌, ◌*◌}
-use native.Mathlib.Omega.{arith}
+use mathlib.Core.Path.{◌≡◌}
+use Prim.Native.Nat.{◌≤◌, ◌+◌, ◌-◌, ◌*◌}
 use lib.ListN.{length}
 use Rattle.field.specs.Packing.{nib}
 use Rattle.field.specs.Vectors.{◌!◌}
 use Rattle.field.specs.Sums.{dot_of}
-use Rattle.forms.proofs.Evaluated.{sum_more, row-dot}
-use borrow.Author.Rules.{rules}
 use Rattle.forms.proofs.values.row_product.Given as goal
 
 abbrev pub invariant-loop-i : goal.invariant-loop-i

@@ -4,7 +4,6 @@ use mathlib.Core.Path.{◌≡◌, ap}
 use Prim.Native.Nat.{ℕ, ◌*◌}
 use native.Mathlib.Omega.{arith}
 use lib.ListN.{length}
-use borrow.Author.Rules.{rules}
 use Rattle.linear.proofs.rows.add_block.Goals as goal
 
 pub add_rows-requires-2 : goal.add_rows-requires-2

@@ -3,7 +3,6 @@ use native.Mathlib.Omega.{arith}
 use lib.Bits.{bit_xor}
 use Rattle.linear.specs.Rows.{RowAdded}
 use Rattle.linear.proofs.Added.{row_more, row_none}
-use borrow.Author.Rules.{rules}
 use Rattle.linear.proofs.rows.add_block_row.Goals as goal
 
 pub bounds-bytes-0 : goal.bounds-bytes-0

@@ -1,16 +1,14 @@
 -- `linear::rows::add_block_rows` meets its contract. The invariant: the first k words have their row's bytes added, the others are as they were, and the next row stands at `from`.
 -- Assumes nothing.
 use mathlib.Core.Path.{◌≡◌, refl, subst, ◌∙◌}
-use mathlib.Core.List.{List}
-use Prim.Native.Nat.{ℕ, ◌+◌, ◌-◌, ◌*◌, ◌≤◌}
+use Prim.Native.Nat.{ℕ, ◌+◌, ◌*◌}
 use native.Mathlib.Omega.{arith}
 use lib.ListN.{length, get_or, length-set}
 use lib.Seq.{get_or-set_other}
 use Rattle.memory.proofs.Copied.{next_row}
 use Rattle.memory.proofs.Lists.{room}
-use Rattle.linear.specs.Rows.{PairsFrom, RowAdded, RowsAdded}
-use Rattle.linear.proofs.Added.{RowsUpTo, rows_more, row-lent}
-use borrow.Author.Rules.{rules}
+use Rattle.linear.specs.Rows.{RowAdded, RowsAdded}
+use Rattle.linear.proofs.Added.{rows_more, row-lent}
 use Rattle.linear.proofs.rows.add_block_rows.Goals as goal
 
 pub loop-k-init : goal.loop-k-init

@@ -1,17 +1,11 @@
 -- `linear::rows::add_byte_rows` meets its contract. The invariant: the first k words have their row's byte added, the others are as they were, and the next row stands at `from`.
 -- Assumes nothing.
-use mathlib.Core.Path.{◌≡◌, refl, subst, ◌∙◌}
+use mathlib.Core.Path.{◌≡◌}
 use mathlib.Core.List.{List}
 use Prim.Native.Nat.{ℕ, ◌+◌, ◌-◌, ◌*◌, ◌≤◌}
-use native.Mathlib.Omega.{arith}
-use lib.ListN.{length, get_or, length-set}
-use lib.Seq.{get_or-set_other}
-use Rattle.memory.proofs.Copied.{next_row}
-use Rattle.memory.proofs.Lists.{room}
-use lib.Bits.{bit_xor}
-use Rattle.linear.specs.Rows.{PairsOf, RowAdded, RowsAdded}
-use Rattle.linear.proofs.Added.{RowsUpTo, rows_more, row_byte}
-use borrow.Author.Rules.{rules}
+use lib.ListN.{length, get_or}
+use Rattle.linear.specs.Rows.{PairsOf}
+use Rattle.linear.proofs.Added.{RowsUpTo}
 use Rattle.linear.proofs.rows.add_byte_rows.Given as goal
 
 abbrev pub invariant-loop-k : goal.invariant-loop-k

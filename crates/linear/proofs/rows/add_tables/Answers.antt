@@ -1,12 +1,11 @@
 -- `linear::rows::add_tables` meets its contract. The invariant: the first `at` bytes of each row are added.
 -- Assumes nothing.
 use mathlib.Core.Path.{◌≡◌, refl, ap, subst, ◌∙◌}
-use Prim.Native.Nat.{ℕ, ◌+◌, ◌-◌, ◌*◌, ◌≤◌}
+use Prim.Native.Nat.{ℕ, ◌+◌, ◌*◌}
 use native.Mathlib.Omega.{arith}
 use lib.ListN.{length}
 use Rattle.linear.specs.Rows.{RowsAdded}
 use Rattle.linear.proofs.Added.{rows_none, rows_then}
-use borrow.Author.Rules.{rules}
 use Rattle.linear.proofs.rows.add_tables.Goals as goal
 
 pub loop-at-init : goal.loop-at-init

@@ -1,13 +1,9 @@
 -- `linear::rows::fill` meets its contract. The invariant: the sums of the first c pairs of words are written.
 -- Assumes nothing.
-use mathlib.Core.Path.{◌≡◌, refl, subst, ◌∙◌}
-use Prim.Native.Nat.{ℕ, ◌+◌, ◌-◌, ◌*◌, ◌≤◌}
-use native.Mathlib.Omega.{arith}
-use borrow.Rule.Slice.PartMut.{same_len_mid}
+use mathlib.Core.Path.{◌≡◌}
+use Prim.Native.Nat.{◌-◌, ◌≤◌}
 use lib.ListN.{length}
 use Rattle.linear.specs.Rows.{PairsFrom}
-use Rattle.linear.proofs.Pairs.{pairs_lent, pairs_none}
-use borrow.Author.Rules.{rules}
 use Rattle.linear.proofs.rows.fill.Given as goal
 
 abbrev pub invariant-loop-c : goal.invariant-loop-c

@@ -5,7 +5,6 @@ use native.Mathlib.Omega.{arith}
 use lib.ListN.{get_or}
 use Rattle.linear.specs.Rows.{PairsOf}
 use Rattle.linear.proofs.Pairs.{pairs_first, pairs_spread, above_1, above_2, above_4, above_8}
-use borrow.Author.Rules.{rules}
 use Rattle.linear.proofs.rows.pair.Goals as goal
 
 pub returns : goal.returns

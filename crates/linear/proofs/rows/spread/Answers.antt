@@ -1,13 +1,12 @@
 -- `linear::rows::spread` meets its contract. The invariant: the first k sums are written, and the words before and behind them are as they were.
 -- Assumes nothing.
-use mathlib.Core.Path.{◌≡◌, refl, ◌∙◌}
-use Prim.Native.Nat.{ℕ, ◌+◌, ◌-◌, ◌≤◌, ◌<◌}
+use mathlib.Core.Path.{refl, ◌∙◌}
+use Prim.Native.Nat.{◌+◌}
 use native.Mathlib.Omega.{arith}
 use lib.Bits.{bit_xor}
-use lib.ListN.{length, get_or, length-set}
+use lib.ListN.{get_or, length-set}
 use lib.Seq.{get_or-set_other}
 use Rattle.linear.proofs.Pairs.{spread_more}
-use borrow.Author.Rules.{rules}
 use Rattle.linear.proofs.rows.spread.Goals as goal
 
 pub loop-k-init : goal.loop-k-init

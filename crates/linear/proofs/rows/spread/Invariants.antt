@@ -1,13 +1,9 @@
 -- `linear::rows::spread` meets its contract. The invariant: the first k sums are written, and the words before and behind them are as they were.
 -- Assumes nothing.
-use mathlib.Core.Path.{◌≡◌, refl, ◌∙◌}
+use mathlib.Core.Path.{◌≡◌}
 use Prim.Native.Nat.{ℕ, ◌+◌, ◌-◌, ◌≤◌, ◌<◌}
-use native.Mathlib.Omega.{arith}
 use lib.Bits.{bit_xor}
-use lib.ListN.{length, get_or, length-set}
-use lib.Seq.{get_or-set_other}
-use Rattle.linear.proofs.Pairs.{spread_more}
-use borrow.Author.Rules.{rules}
+use lib.ListN.{length, get_or}
 use Rattle.linear.proofs.rows.spread.Given as goal
 
 abbrev pub invariant-loop-k : goal.invariant-loop-k

@@ -1,7 +1,6 @@
 -- `linear::rows::word_or_zero` meets its contract: past the end of a list stands the default. Assumes nothing.
 use mathlib.Core.Path.{sym}
 use lib.ListN.{get_or-eq_default}
-use borrow.Author.Rules.{rules}
 use Rattle.linear.proofs.rows.word_or_zero.Goals as goal
 
 pub returns-else-i-words : goal.returns-else-i-words

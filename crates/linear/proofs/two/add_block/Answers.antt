@@ -1,7 +1,6 @@
 -- `linear::two::add_block` meets its contract: the pairs are those of the block's words and of the others, and each table's rows are added by them.
 -- Assumes nothing.
 use Prim.Native.Nat.{◌*◌}
-use borrow.Author.Rules.{rules}
 use Rattle.linear.proofs.two.add_block.Goals as goal
 
 pub returns : goal.returns

@@ -4,7 +4,6 @@ use lib.Bits.{bit_xor}
 use Rattle.linear.specs.Rows.{RowAdded}
 use Rattle.linear.proofs.Added.{row_none}
 use Rattle.linear.proofs.TwoRows.{row-strand}
-use borrow.Author.Rules.{rules}
 use Rattle.linear.proofs.two.add_block_row.Goals as goal
 
 pub bounds-bytes-0 : goal.bounds-bytes-0

@@ -1,19 +1,17 @@
 -- `linear::two::add_byte_rows` meets its contract. The invariant: the first k words of each strand have their row's byte added, the others are as they were, and the next row stands at `from`.
 -- Assumes nothing.
 use mathlib.Core.Path.{◌≡◌, refl, sym, ap, subst, ◌∙◌}
-use mathlib.Core.List.{List}
-use Prim.Native.Nat.{ℕ, ◌+◌, ◌-◌, ◌*◌, ◌≤◌, ◌<◌}
+use Prim.Native.Nat.{ℕ, ◌+◌, ◌*◌, ◌<◌}
 use native.Mathlib.Omega.{arith}
 use lib.ListN.{length, get_or, length-set}
 use Rattle.memory.proofs.Copied.{next_row}
 use Rattle.memory.proofs.Lists.{room}
 use lib.Bits.{bit_xor}
-use Rattle.linear.specs.Rows.{PairsOf, RowAdded}
+use Rattle.linear.specs.Rows.{RowAdded}
 use Rattle.linear.specs.Two.{strand}
 use Rattle.linear.proofs.Added.{row_byte}
 use Rattle.linear.proofs.Strands.{strand_at, even_more, odd_more, two_behind}
-use Rattle.linear.proofs.TwoRows.{StrandUpTo, both_rows}
-use borrow.Author.Rules.{rules}
+use Rattle.linear.proofs.TwoRows.{both_rows}
 use Rattle.linear.proofs.two.add_byte_rows.Goals as goal
 
 pub loop-k-init : goal.loop-k-init

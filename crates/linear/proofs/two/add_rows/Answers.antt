@@ -1,10 +1,8 @@
 -- `linear::two::add_rows` meets its contract. A block is the callee's. The invariant otherwise: the first i bytes of each row are added.
 -- Assumes nothing.
 use mathlib.Core.Path.{◌≡◌, refl, sym, subst, ◌∙◌}
-use mathlib.Core.List.{List}
-use Prim.Native.Nat.{ℕ, ◌+◌, ◌-◌, ◌*◌, ◌≤◌}
+use Prim.Native.Nat.{ℕ, ◌+◌, ◌*◌}
 use native.Mathlib.Omega.{arith}
-use lib.ListN.{length}
 use Rattle.linear.specs.Two.{BothFrom, BothAdded}
 use Rattle.linear.proofs.TwoSums.{both_part}
 use Rattle.linear.proofs.TwoRows.{both_none, both_on}

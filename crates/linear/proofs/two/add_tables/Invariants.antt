@@ -1,12 +1,9 @@
 -- `linear::two::add_tables` meets its contract. The invariant: the first `at` bytes of each row are added.
 -- Assumes nothing.
-use mathlib.Core.Path.{◌≡◌, refl, subst, ◌∙◌}
-use Prim.Native.Nat.{ℕ, ◌+◌, ◌-◌, ◌*◌, ◌≤◌}
-use native.Mathlib.Omega.{arith}
+use mathlib.Core.Path.{◌≡◌}
+use Prim.Native.Nat.{◌+◌, ◌-◌, ◌*◌, ◌≤◌}
 use lib.ListN.{length}
 use Rattle.linear.specs.Two.{BothAdded}
-use Rattle.linear.proofs.TwoRows.{both_none, both_then}
-use borrow.Author.Rules.{rules}
 use Rattle.linear.proofs.two.add_tables.Given as goal
 
 abbrev pub invariant-loop-at : goal.invariant-loop-at

@@ -1,13 +1,8 @@
 -- `linear::two::part` meets its contract. The invariant: the first k words of each strand are written.
 -- Assumes nothing.
-use mathlib.Core.Path.{◌≡◌, refl, sym, ap}
+use mathlib.Core.Path.{◌≡◌}
 use Prim.Native.Nat.{ℕ, ◌+◌, ◌-◌, ◌*◌, ◌≤◌, ◌<◌}
-use native.Mathlib.Nat.{add-zero}
-use native.Mathlib.Omega.{arith}
-use lib.ListN.{length, get_or, length-set}
-use Rattle.memory.proofs.Entries.{entry_more}
-use Rattle.linear.proofs.Strands.{strand_of}
-use borrow.Author.Rules.{rules}
+use lib.ListN.{length, get_or}
 use Rattle.linear.proofs.two.part.Given as goal
 
 abbrev pub invariant-loop-k : goal.invariant-loop-k

@@ -1,13 +1,9 @@
 -- `linear::two_sums::fill` meets its contract. The invariant: the sums of the first c pairs of words, and of the others, are written.
 -- Assumes nothing.
-use mathlib.Core.Path.{◌≡◌, subst, ◌∙◌}
-use Prim.Native.Nat.{ℕ, ◌+◌, ◌-◌, ◌*◌, ◌≤◌}
-use native.Mathlib.Omega.{arith}
-use borrow.Rule.Slice.PartMut.{same_len_mid}
+use mathlib.Core.Path.{◌≡◌}
+use Prim.Native.Nat.{◌-◌, ◌≤◌}
 use lib.ListN.{length}
 use Rattle.linear.specs.Two.{BothFrom}
-use Rattle.linear.proofs.TwoSums.{both_lent, both_nothing}
-use borrow.Author.Rules.{rules}
 use Rattle.linear.proofs.two_sums.fill.Given as goal
 
 abbrev pub invariant-loop-c : goal.invariant-loop-c

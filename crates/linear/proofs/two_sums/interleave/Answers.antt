@@ -1,11 +1,10 @@
 -- `linear::two_sums::interleave` meets its contract. The invariant: the first k words of each list are written.
 -- Assumes nothing.
 use mathlib.Core.Path.{◌≡◌, refl}
-use Prim.Native.Nat.{ℕ, ◌+◌, ◌-◌, ◌*◌, ◌≤◌, ◌<◌}
+use Prim.Native.Nat.{◌+◌, ◌*◌, ◌<◌}
 use native.Mathlib.Omega.{arith}
 use lib.ListN.{length, get_or, length-set}
 use Rattle.linear.proofs.Strands.{even_more, odd_more}
-use borrow.Author.Rules.{rules}
 use Rattle.linear.proofs.two_sums.interleave.Goals as goal
 
 pub loop-k-init : goal.loop-k-init

@@ -1,11 +1,8 @@
 -- `linear::two_sums::interleave` meets its contract. The invariant: the first k words of each list are written.
 -- Assumes nothing.
-use mathlib.Core.Path.{◌≡◌, refl}
+use mathlib.Core.Path.{◌≡◌}
 use Prim.Native.Nat.{ℕ, ◌+◌, ◌-◌, ◌*◌, ◌≤◌, ◌<◌}
-use native.Mathlib.Omega.{arith}
-use lib.ListN.{length, get_or, length-set}
-use Rattle.linear.proofs.Strands.{even_more, odd_more}
-use borrow.Author.Rules.{rules}
+use lib.ListN.{length, get_or}
 use Rattle.linear.proofs.two_sums.interleave.Given as goal
 
 abbrev pub invariant-loop-k : goal.invariant-loop-k

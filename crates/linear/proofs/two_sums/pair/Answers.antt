@@ -7,7 +7,6 @@ use Rattle.linear.specs.Rows.{PairsOf}
 use Rattle.linear.specs.Two.{strand}
 use Rattle.linear.proofs.Pairs.{pairs_spread, above_1, above_2, above_4, above_8}
 use Rattle.linear.proofs.TwoSums.{strand-first}
-use borrow.Author.Rules.{rules}
 use Rattle.linear.proofs.two_sums.pair.Goals as goal
 
 pub spread-requires : goal.spread-requires

@@ -1,12 +1,9 @@
 -- `linear::two_sums::spread` meets its contract. The invariant: the first k sums of each strand are written, and the words before and behind them are as they were.
 -- Assumes nothing.
-use mathlib.Core.Path.{◌≡◌, refl, ◌∙◌}
+use mathlib.Core.Path.{◌≡◌}
 use Prim.Native.Nat.{ℕ, ◌+◌, ◌-◌, ◌*◌, ◌%◌, ◌≤◌, ◌<◌}
-use native.Mathlib.Omega.{arith}
 use lib.Bits.{bit_xor}
 use lib.ListN.{length, get_or}
-use Rattle.linear.proofs.TwoSums.{strand-spread, four_room, four_more, four_length, four_before, four_behind}
-use borrow.Author.Rules.{rules}
 use Rattle.linear.proofs.two_sums.spread.Given as goal
 
 abbrev pub invariant-loop-k : goal.invariant-loop-k

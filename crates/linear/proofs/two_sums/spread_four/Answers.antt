@@ -2,7 +2,6 @@
 use native.Mathlib.Omega.{arith}
 use lib.ListN.{length-set}
 use Rattle.linear.proofs.TwoSums.{stored_eight}
-use borrow.Author.Rules.{rules}
 use Rattle.linear.proofs.two_sums.spread_four.Goals as goal
 
 pub bounds-out-e-2 : goal.bounds-out-e-2

@@ -5,7 +5,6 @@ use Prim.Native.Nat.{◌+◌, ◌-◌, ◌*◌}
 use lib.ListN.{replicate}
 use lib.Seq.{length-take-le}
 use Rattle.replies.proofs.Hiding.{placed-party}
-use borrow.Author.Rules.{rules}
 use Rattle.replies.proofs.hidden.alpha_turn.Goals as goal
 
 pub hidden_party-i-requires : goal.hidden_party-i-requires

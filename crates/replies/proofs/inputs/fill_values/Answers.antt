@@ -4,9 +4,7 @@ use Prim.Native.Nat.{◌+◌}
 use native.Mathlib.Omega.{arith}
 use Rattle.memory.proofs.Parts.{length-lent}
 use Rattle.passes.proofs.Bounds.{corrections-end, packing_small}
-use Rattle.biscuit.proofs.Parts.{four_length}
 use Rattle.replies.proofs.Values.{filled_values}
-use borrow.Author.Rules.{rules}
 use Rattle.replies.proofs.inputs.fill_values.Goals as goal
 
 pub overflow_add-a : goal.overflow_add-a

@@ -5,7 +5,6 @@ use Prim.Native.Nat.{◌+◌, ◌-◌, ◌*◌}
 use lib.ListN.{replicate}
 use lib.Seq.{length-take-le}
 use Rattle.replies.proofs.Lending.{answered_planted, kept_planted}
-use borrow.Author.Rules.{rules}
 use Rattle.replies.proofs.repetition.answer_turn.Goals as goal
 
 pub overflow_mul-size : goal.overflow_mul-size

@@ -7,7 +7,6 @@ use Rattle.field.specs.Packing.{Elements}
 use Rattle.biscuit.proofs.Room.{mapped}
 use Rattle.replies.proofs.Values.{values_elements}
 use Rattle.replies.proofs.Pairing.{answered-beside, kept-beside}
-use borrow.Author.Rules.{rules}
 use Rattle.replies.proofs.repetition.answer_two_in.Goals as goal
 
 pub overflow_add-next : goal.overflow_add-next

@@ -1,7 +1,6 @@
 -- `signing::sections::open_hidden` meets its contract: the leaves stand where the roots were, what is shown in its section, and the pass puts the hidden α behind the corrections. Assumes nothing.
 use mathlib.Core.Path.{refl}
 use native.Mathlib.Omega.{arith}
-use borrow.Author.Rules.{rules}
 use Rattle.signing.proofs.Sizes.{seed_small, sections, head_at, roots-within}
 use Rattle.signing.proofs.Rooted.{taken_size}
 use Rattle.signing.proofs.Opening.{shown_size, packing_sized, work-sized, opened}

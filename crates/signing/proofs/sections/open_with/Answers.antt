@@ -1,7 +1,6 @@
 -- `signing::sections::open_with` meets its contract: the second hash gives the hidden parties, and the head leaves the packing as it was. Assumes nothing.
 use mathlib.Core.Path.{◌∙◌}
 use native.Mathlib.Omega.{arith}
-use borrow.Author.Rules.{rules}
 use Rattle.signing.proofs.Closing.{head_parts_fit, headed_size, closed}
 use Rattle.signing.proofs.sections.open_with.Goals as goal
 

@@ -7,7 +7,6 @@ use native.Mathlib.Omega.{arith}
 use Rattle.memory.proofs.Parts.{length-put}
 use Rattle.memory.proofs.Sections.{copied_part}
 use Rattle.signing.proofs.Assembling.{three_copied}
-use borrow.Author.Rules.{rules}
 use Rattle.signing.proofs.sections.write_head.Goals as goal
 
 pub returns : goal.returns

@@ -1,14 +1,12 @@
 -- `single::masks::each` meets its contract. The invariant: the masks of the first w words are written.
 -- Assumes nothing.
 use mathlib.Core.Path.{◌≡◌, refl, subst, ◌∙◌}
-use Prim.Native.Nat.{ℕ, ◌+◌, ◌*◌, ◌-◌, ◌≤◌}
+use Prim.Native.Nat.{ℕ, ◌+◌, ◌*◌, ◌-◌}
 use native.Mathlib.Omega.{arith}
-use lib.ListN.{length}
 use borrow.Rule.Slice.PartMut.{same_len_mid}
 use Rattle.field.specs.Packing.{nib}
 use Rattle.single.specs.Masks.{MasksOf}
 use Rattle.single.proofs.Weighing.{masks_none, masks_lent}
-use borrow.Author.Rules.{rules}
 use Rattle.single.proofs.masks.each.Goals as goal
 
 pub loop-w-init : goal.loop-w-init

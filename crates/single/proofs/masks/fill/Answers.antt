@@ -1,7 +1,6 @@
 -- `single::masks::fill` meets its contract: the vector is packed over zeros, so the masks of the packed elements are its own.
 -- Assumes nothing.
 use Rattle.single.proofs.Vector.{masks_vector}
-use borrow.Author.Rules.{rules}
 use Rattle.single.proofs.masks.fill.Goals as goal
 
 pub returns : goal.returns

@@ -1,12 +1,10 @@
 -- `single::masks::four` meets its contract. The invariant: the first b words are the masks of their bits.
 -- Assumes nothing.
-use mathlib.Core.Path.{◌≡◌, refl}
-use Prim.Native.Nat.{ℕ, ◌-◌, ◌≤◌, ◌<◌}
+use mathlib.Core.Path.{refl}
 use native.Mathlib.Omega.{arith}
-use lib.ListN.{length, get_or, length-set}
+use lib.ListN.{length-set}
 use Rattle.memory.proofs.Entries.{entry_more}
 use Rattle.single.specs.Masks.{MaskOf}
-use borrow.Author.Rules.{rules}
 use Rattle.single.proofs.masks.four.Goals as goal
 
 pub loop-b-init : goal.loop-b-init

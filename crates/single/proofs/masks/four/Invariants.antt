@@ -1,12 +1,9 @@
 -- `single::masks::four` meets its contract. The invariant: the first b words are the masks of their bits.
 -- Assumes nothing.
-use mathlib.Core.Path.{◌≡◌, refl}
+use mathlib.Core.Path.{◌≡◌}
 use Prim.Native.Nat.{ℕ, ◌-◌, ◌≤◌, ◌<◌}
-use native.Mathlib.Omega.{arith}
-use lib.ListN.{length, get_or, length-set}
-use Rattle.memory.proofs.Entries.{entry_more}
+use lib.ListN.{length, get_or}
 use Rattle.single.specs.Masks.{MaskOf}
-use borrow.Author.Rules.{rules}
 use Rattle.single.proofs.masks.four.Given as goal
 
 abbrev pub invariant-loop-b : goal.invariant-loop-b

@@ -4,7 +4,6 @@ use Prim.Native.Nat.{◌/◌, ◌^◌}
 use native.Mathlib.Omega.{arith}
 use lib.Bits.{and_le_r}
 use Rattle.single.proofs.Weighing.{mask_lanes}
-use borrow.Author.Rules.{rules}
 use Rattle.single.proofs.masks.mask.Goals as goal
 
 pub overflow_mul-result : goal.overflow_mul-result

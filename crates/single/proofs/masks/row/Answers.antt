@@ -1,13 +1,11 @@
 -- `single::masks::row` meets its contract. The invariant: the four sums, weighed and added up, are the product of the first w words of the row.
 -- Assumes nothing.
 use mathlib.Core.Path.{◌≡◌, ◌∙◌, ap}
-use Prim.Native.Nat.{ℕ, ◌+◌, ◌*◌, ◌-◌, ◌≤◌}
+use Prim.Native.Nat.{ℕ, ◌+◌, ◌*◌}
 use native.Mathlib.Omega.{arith}
 use Rattle.field.specs.Packing.{nib}
 use Rattle.field.specs.Sums.{dot_of}
-use Rattle.single.specs.Masks.{MasksOf}
-use Rattle.single.proofs.Weighing.{weighed, weighed_none, row_more, lanes_weighed}
-use borrow.Author.Rules.{rules}
+use Rattle.single.proofs.Weighing.{weighed_none, row_more, lanes_weighed}
 use Rattle.single.proofs.masks.row.Goals as goal
 
 pub loop-w-init : goal.loop-w-init

@@ -1,14 +1,13 @@
 -- `single::masks::rows` meets its contract. The invariant: the first k words are those of their rows, and the next row stands at `at`.
 -- Assumes nothing.
 use mathlib.Core.Path.{◌≡◌, refl, subst}
-use Prim.Native.Nat.{ℕ, ◌+◌, ◌*◌, ◌-◌, ◌≤◌}
+use Prim.Native.Nat.{ℕ, ◌+◌, ◌*◌}
 use native.Mathlib.Omega.{arith}
 use lib.ListN.{length, length-set}
 use Rattle.memory.proofs.Copied.{next_row}
 use Rattle.memory.proofs.Lists.{room}
-use Rattle.single.specs.Masks.{MasksOf, RowsOf}
+use Rattle.single.specs.Masks.{RowsOf}
 use Rattle.single.proofs.Weighing.{rows_none, rows_more}
-use borrow.Author.Rules.{rules}
 use Rattle.single.proofs.masks.rows.Goals as goal
 
 pub loop-k-init : goal.loop-k-init

@@ -1,14 +1,9 @@
 -- `single::masks::rows` meets its contract. The invariant: the first k words are those of their rows, and the next row stands at `at`.
 -- Assumes nothing.
-use mathlib.Core.Path.{◌≡◌, refl, subst}
+use mathlib.Core.Path.{◌≡◌}
 use Prim.Native.Nat.{ℕ, ◌+◌, ◌*◌, ◌-◌, ◌≤◌}
-use native.Mathlib.Omega.{arith}
-use lib.ListN.{length, length-set}
-use Rattle.memory.proofs.Copied.{next_row}
-use Rattle.memory.proofs.Lists.{room}
+use lib.ListN.{length}
 use Rattle.single.specs.Masks.{MasksOf, RowsOf}
-use Rattle.single.proofs.Weighing.{rows_none, rows_more}
-use borrow.Author.Rules.{rules}
 use Rattle.single.proofs.masks.rows.Given as goal
 
 abbrev pub invariant-loop-k : goal.invariant-loop-k

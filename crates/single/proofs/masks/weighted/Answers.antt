@@ -1,7 +1,6 @@
 -- `single::masks::weighted` meets its contract: three doublings, each of a sum, as `weigh` has it.
 -- Assumes nothing.
 use Rattle.single.proofs.Weighing.{weighted_lanes}
-use borrow.Author.Rules.{rules}
 use Rattle.single.proofs.masks.weighted.Goals as goal
 
 pub returns : goal.returns

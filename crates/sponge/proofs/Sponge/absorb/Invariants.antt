@@ -1,17 +1,11 @@
 -- `sponge::Sponge::absorb` meets its contract. The loop's invariant: the sponge is what the first i bytes make of the one that came, and its place is in the block.
 -- A turn takes as many bytes as the block has room for, which `absorb_turn` shows to be absorbing them. The measure is what is left of the bytes.
 -- Assumes nothing.
-use mathlib.Core.Path.{◌≡◌, ap, ◌∙◌}
-use mathlib.Core.List.{List}
-use Prim.Native.Nat.{ℕ, ◌≤◌, ◌<◌, ◌-◌, ◌%◌}
-use native.Mathlib.Omega.{arith}
-use borrow.Author.Rules.{rules}
-use lib.ListN.{length, take, length-take, length-drop}
-use lib.Seq.{take_all}
-use Rattle.sponge.specs.declared.Sponge.{Sponge}
+use mathlib.Core.Path.{◌≡◌}
+use Prim.Native.Nat.{◌≤◌, ◌<◌, ◌-◌}
+use lib.ListN.{length, take}
 use Rattle.sponge.specs.Sponge.{rate}
-use Rattle.sponge.specs.Steps.{sponge, within, absorbed}
-use Rattle.sponge.proofs.Absorb.{absorbed_none, absorbed-within, turned-place, absorb_turn}
+use Rattle.sponge.specs.Steps.{sponge, absorbed}
 use Rattle.sponge.proofs.Sponge.absorb.Given as goal
 
 abbrev pub invariant-loop-i : goal.invariant-loop-i

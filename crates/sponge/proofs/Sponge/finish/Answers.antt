@@ -3,7 +3,6 @@
 use mathlib.Core.Path.{◌∙◌, ap}
 use mathlib.Core.List.{List}
 use Prim.Native.Nat.{ℕ, ◌-◌}
-use borrow.Author.Rules.{rules}
 use Rattle.keccak.specs.Keccak.{keccak_f}
 use Rattle.sponge.specs.Sponge.{rate}
 use Rattle.sponge.specs.Steps.{tape, xor_byte, finished}

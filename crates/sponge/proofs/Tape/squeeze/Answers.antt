@@ -2,10 +2,8 @@
 -- A turn gives as many bytes as the block has, which `squeeze_given` and `squeeze_moved` show to be the next ones. The measure is what is left of `out`.
 -- Assumes nothing.
 use mathlib.Core.Path.{◌≡◌, refl, sym, ap, ◌∙◌}
-use Prim.Native.Nat.{◌≤◌, ◌-◌}
 use native.Mathlib.Omega.{arith}
-use borrow.Author.Rules.{rules}
-use lib.ListN.{length, take, length-take, length-drop}
+use lib.ListN.{length, length-take, length-drop}
 use lib.Seq.{take_all}
 use Rattle.sponge.specs.Steps.{tape, given, moved}
 use Rattle.sponge.proofs.Squeeze.{ready-place, squeeze_moved, squeeze_length, squeeze_given}

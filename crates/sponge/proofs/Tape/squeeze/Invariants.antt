@@ -1,14 +1,10 @@
 -- `sponge::Tape::squeeze` meets its contract. The loop's invariant: the first i bytes of `out` are given, and the tape is the one behind them.
 -- A turn gives as many bytes as the block has, which `squeeze_given` and `squeeze_moved` show to be the next ones. The measure is what is left of `out`.
 -- Assumes nothing.
-use mathlib.Core.Path.{◌≡◌, refl, sym, ap, ◌∙◌}
+use mathlib.Core.Path.{◌≡◌}
 use Prim.Native.Nat.{◌≤◌, ◌-◌}
-use native.Mathlib.Omega.{arith}
-use borrow.Author.Rules.{rules}
-use lib.ListN.{length, take, length-take, length-drop}
-use lib.Seq.{take_all}
+use lib.ListN.{length, take}
 use Rattle.sponge.specs.Steps.{tape, given, moved}
-use Rattle.sponge.proofs.Squeeze.{ready-place, squeeze_moved, squeeze_length, squeeze_given}
 use Rattle.sponge.proofs.Tape.squeeze.Given as goal
 
 abbrev pub invariant-loop-i : goal.invariant-loop-i

@@ -3,7 +3,6 @@
 use mathlib.Core.Path.{◌≡◌, refl, ap, ◌∙◌}
 use Prim.Native.Nat.{ℕ}
 use native.Mathlib.Omega.{arith}
-use borrow.Author.Rules.{rules}
 use lib.ListN.{length}
 use Rattle.sponge.specs.Steps.{bytes_from}
 use Rattle.sponge.proofs.Parts.{rest-room, give_pieces}

@@ -1,15 +1,10 @@
 -- `sponge::part::give_bytes` meets its contract. The loop's invariant: the first i bytes of `out` are given, and `out` keeps its length. A turn is `given_turn`.
 -- The measure is what is left of `out`.
 -- Assumes nothing.
-use mathlib.Core.Path.{◌≡◌, refl, sym, ap, ◌∙◌}
+use mathlib.Core.Path.{◌≡◌}
 use Prim.Native.Nat.{◌≤◌, ◌-◌}
-use native.Mathlib.Omega.{arith}
-use borrow.Author.Rules.{rules}
-use lib.ListN.{length, take, length-set}
-use lib.Seq.{take_all}
-use Rattle.memory.specs.Lists.{table}
+use lib.ListN.{length, take}
 use Rattle.sponge.specs.Steps.{bytes_from}
-use Rattle.sponge.proofs.Lanes.{given_turn}
 use Rattle.sponge.proofs.part.give_bytes.Given as goal
 
 abbrev pub invariant-loop-i : goal.invariant-loop-i

@@ -1,15 +1,10 @@
 -- `sponge::part::give_words` meets its contract. The loop's invariant: the first j words of `out` are given, and `out` keeps its length. A turn is `given_words_turn`.
 -- The measure is how many words are left.
 -- Assumes nothing.
-use mathlib.Core.Path.{◌≡◌, refl, sym, ap, ◌∙◌}
+use mathlib.Core.Path.{◌≡◌}
 use Prim.Native.Nat.{◌≤◌, ◌-◌, ◌*◌}
-use native.Mathlib.Omega.{arith}
-use borrow.Author.Rules.{rules}
 use lib.ListN.{length, take}
-use lib.Seq.{take_all}
-use Rattle.memory.specs.Lists.{table}
 use Rattle.sponge.specs.Steps.{bytes_from}
-use Rattle.sponge.proofs.Lanes.{given_words_turn}
 use Rattle.sponge.proofs.part.give_words.Given as goal
 
 abbrev pub invariant-loop-j : goal.invariant-loop-j

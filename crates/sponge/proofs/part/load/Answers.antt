@@ -2,10 +2,9 @@
 -- A turn is `load_turn`; w stays below 2^56 before the last. The measure is i.
 -- Assumes nothing.
 use mathlib.Core.Path.{◌≡◌, sym, ap, ◌∙◌}
-use Prim.Native.Nat.{ℕ, ◌≤◌}
+use Prim.Native.Nat.{ℕ}
 use native.Mathlib.Omega.{arith}
-use borrow.Author.Rules.{rules}
-use lib.ListN.{length, drop}
+use lib.ListN.{drop}
 use lib.Seq.{drop-length}
 use Rattle.sponge.specs.Sponge.{little}
 use Rattle.sponge.proofs.Words.{load_small, load_turn}

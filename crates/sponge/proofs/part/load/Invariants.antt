@@ -1,14 +1,10 @@
 -- `sponge::part::load` meets its contract. The loop goes from the last byte to the first, and its invariant is that w is the number of the bytes from i on.
 -- A turn is `load_turn`; w stays below 2^56 before the last. The measure is i.
 -- Assumes nothing.
-use mathlib.Core.Path.{◌≡◌, sym, ap, ◌∙◌}
-use Prim.Native.Nat.{ℕ, ◌≤◌}
-use native.Mathlib.Omega.{arith}
-use borrow.Author.Rules.{rules}
+use mathlib.Core.Path.{◌≡◌}
+use Prim.Native.Nat.{◌≤◌}
 use lib.ListN.{length, drop}
-use lib.Seq.{drop-length}
 use Rattle.sponge.specs.Sponge.{little}
-use Rattle.sponge.proofs.Words.{load_small, load_turn}
 use Rattle.sponge.proofs.part.load.Given as goal
 
 abbrev pub invariant-loop-i : goal.invariant-loop-i

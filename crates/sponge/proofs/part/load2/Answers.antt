@@ -1,7 +1,6 @@
 -- `sponge::part::load2` meets its contract: two bytes, the second above the first, are the number of both.
 -- Assumes nothing.
 use native.Mathlib.Omega.{arith}
-use borrow.Author.Rules.{rules}
 use Rattle.sponge.proofs.Words.{load_one, load_double}
 use Rattle.sponge.proofs.part.load2.Goals as goal
 

@@ -1,7 +1,6 @@
 -- `sponge::part::load4` meets its contract: two numbers of two bytes, the second above the first, are the number of all four.
 -- Assumes nothing.
 use native.Mathlib.Omega.{arith}
-use borrow.Author.Rules.{rules}
 use Rattle.sponge.proofs.Words.{load_double}
 use Rattle.sponge.proofs.part.load4.Goals as goal
 

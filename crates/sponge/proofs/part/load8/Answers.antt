@@ -1,7 +1,6 @@
 -- `sponge::part::load8` meets its contract: two numbers of four bytes, the second above the first, are the number of all eight.
 -- Assumes nothing.
 use native.Mathlib.Omega.{arith}
-use borrow.Author.Rules.{rules}
 use Rattle.sponge.proofs.Words.{load_double}
 use Rattle.sponge.proofs.part.load8.Goals as goal
 

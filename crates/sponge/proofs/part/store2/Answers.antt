@@ -1,7 +1,6 @@
 -- `sponge::part::store2` meets its contract: two stores one after the other are two bytes put into the list.
 -- Assumes nothing.
 use native.Mathlib.Omega.{arith}
-use borrow.Author.Rules.{rules}
 use lib.ListN.{length-set}
 use Rattle.sponge.proofs.Words.{store_pair}
 use Rattle.sponge.proofs.part.store2.Goals as goal

@@ -4,7 +4,6 @@ use mathlib.Core.Path.{◌∙◌, ap}
 use mathlib.Core.List.{List}
 use Prim.Native.Nat.{ℕ, ◌+◌, ◌/◌}
 use native.Mathlib.Omega.{arith}
-use borrow.Author.Rules.{rules}
 use Rattle.memory.specs.Lists.{put}
 use Rattle.sponge.specs.Steps.{bytes_of}
 use Rattle.sponge.proofs.Words.{store_double}

@@ -3,7 +3,6 @@
 use mathlib.Core.Path.{ap}
 use Prim.Native.Nat.{ℕ, ◌/◌, ◌%◌}
 use native.Mathlib.Omega.{arith}
-use borrow.Author.Rules.{rules}
 use lib.ListN.{set, get_or}
 use lib.Bits.{bit_xor}
 use Rattle.sponge.specs.Steps.{xor_byte}

@@ -1,6 +1,5 @@
 -- `sponge::part::xor_few` meets its contract: the number of the bytes, shifted to its place, is xored into one lane.
 -- Assumes nothing.
-use borrow.Author.Rules.{rules}
 use Rattle.sponge.proofs.Lanes.{few_xored}
 use Rattle.sponge.proofs.part.xor_few.Goals as goal
 

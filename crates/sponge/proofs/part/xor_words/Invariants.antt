@@ -1,13 +1,9 @@
 -- `sponge::part::xor_words` meets its contract. The loop's invariant: the first j words are xored in. A turn is `words_turn`. The measure is how many words are left.
 -- Assumes nothing.
-use mathlib.Core.Path.{◌≡◌, refl, ap, ◌∙◌}
+use mathlib.Core.Path.{◌≡◌}
 use Prim.Native.Nat.{◌≤◌, ◌-◌, ◌*◌}
-use native.Mathlib.Omega.{arith}
-use borrow.Author.Rules.{rules}
 use lib.ListN.{take}
-use lib.Seq.{take_all}
 use Rattle.sponge.specs.Steps.{xor_bytes}
-use Rattle.sponge.proofs.Lanes.{words_turn}
 use Rattle.sponge.proofs.part.xor_words.Given as goal
 
 abbrev pub invariant-loop-j : goal.invariant-loop-j

@@ -1,7 +1,6 @@
 -- `turning::pack::elements_from` meets its contract: a window inside a vector reads two blocks, one at its end the last sixteen elements and the next party's first.
 -- Assumes nothing.
 use Rattle.turning.proofs.Windows.{elements_inside, elements_across}
-use borrow.Author.Rules.{rules}
 use Rattle.turning.proofs.pack.elements_from.Goals as goal
 
 pub returns-then-k-m : goal.returns-then-k-m

@@ -8,7 +8,6 @@ use lib.ListN.{length, take, drop}
 use Rattle.memory.specs.Lists.{over}
 use Rattle.turning.specs.Turns.{Turned}
 use Rattle.turning.proofs.Back.{turned_back}
-use borrow.Author.Rules.{rules}
 use Rattle.turning.proofs.pack.turn_back.Goals as goal
 
 pub returns : goal.returns

@@ -1,7 +1,6 @@
 -- `turning::pack::window` meets its contract: the two shifted words have no lane in common.
 -- Assumes nothing.
 use Rattle.turning.proofs.Windows.{window_lanes}
-use borrow.Author.Rules.{rules}
 use Rattle.turning.proofs.pack.window.Goals as goal
 
 pub returns : goal.returns

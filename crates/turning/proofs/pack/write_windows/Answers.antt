@@ -2,13 +2,11 @@
 -- and what lies behind the bytes to write is kept.
 -- Assumes nothing.
 use mathlib.Core.Path.{◌≡◌, refl, sym, ap₂, subst, ◌∙◌}
-use mathlib.Core.Logic.{⊎_elim}
-use Prim.Native.Nat.{ℕ, ◌+◌, ◌-◌, ◌*◌, ◌≤◌, ◌<◌}
+use Prim.Native.Nat.{ℕ, ◌+◌, ◌*◌}
 use native.Mathlib.Omega.{arith}
-use lib.ListN.{length, drop}
+use lib.ListN.{length}
 use Rattle.lanes.proofs.Bytes.{put-behind}
 use Rattle.turning.proofs.Windows.{PackedTo, packed_none, packed_more, packed_all, party-lt, next_inside, next_across}
-use borrow.Author.Rules.{rules}
 use Rattle.turning.proofs.pack.write_windows.Goals as goal
 use Rattle.turning.proofs.pack.write_windows.Goals.{then-k-m, else-k-m}
 

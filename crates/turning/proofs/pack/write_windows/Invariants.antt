@@ -1,14 +1,10 @@
 -- `turning::pack::write_windows` meets its contract. The invariant: the elements below 16 o stand in the bytes, 16 o is the place of element k of party q,
 -- and what lies behind the bytes to write is kept.
 -- Assumes nothing.
-use mathlib.Core.Path.{◌≡◌, refl, sym, ap₂, subst, ◌∙◌}
-use mathlib.Core.Logic.{⊎_elim}
-use Prim.Native.Nat.{ℕ, ◌+◌, ◌-◌, ◌*◌, ◌≤◌, ◌<◌}
-use native.Mathlib.Omega.{arith}
+use mathlib.Core.Path.{◌≡◌}
+use Prim.Native.Nat.{◌+◌, ◌-◌, ◌*◌, ◌≤◌, ◌<◌}
 use lib.ListN.{length, drop}
-use Rattle.lanes.proofs.Bytes.{put-behind}
-use Rattle.turning.proofs.Windows.{PackedTo, packed_none, packed_more, packed_all, party-lt, next_inside, next_across}
-use borrow.Author.Rules.{rules}
+use Rattle.turning.proofs.Windows.{PackedTo}
 use Rattle.turning.proofs.pack.write_windows.Given as goal
 
 abbrev pub invariant-loop-o : goal.invariant-loop-o

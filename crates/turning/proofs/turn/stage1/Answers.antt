@@ -3,7 +3,6 @@
 use mathlib.Core.Path.{refl}
 use Rattle.memory.specs.Lists.{table}
 use Rattle.turning.proofs.Stages.{stage_mixed, mask1}
-use borrow.Author.Rules.{rules}
 use Rattle.turning.proofs.turn.stage1.Goals as goal
 
 pub returns : goal.returns

@@ -3,7 +3,6 @@
 use mathlib.Core.Path.{refl}
 use Rattle.memory.specs.Lists.{table}
 use Rattle.turning.proofs.Stages.{stage_mixed, mask8}
-use borrow.Author.Rules.{rules}
 use Rattle.turning.proofs.turn.stage8.Goals as goal
 
 pub returns : goal.returns

@@ -10,7 +10,6 @@ use Rattle.biscuit.proofs.Sizes.{shown_small}
 use Rattle.biscuit.proofs.Room.{mapped}
 use Rattle.turns.proofs.Sizes.{head_fits, commitment_fits, salt-short, leaves-length}
 use Rattle.turns.proofs.Turning.{commitments_as}
-use borrow.Author.Rules.{rules}
 use Rattle.turns.proofs.first.absorb_commitments.Goals as goal
 
 pub overflow_mul-from : goal.overflow_mul-from

@@ -11,7 +11,6 @@ use Rattle.sponge.specs.Steps.{absorbed}
 use Rattle.turns.specs.Turns.{leaves_part}
 use Rattle.turns.proofs.Reading.{values_cut}
 use Rattle.turns.proofs.Turning.{first-turned}
-use borrow.Author.Rules.{rules}
 use Rattle.turns.proofs.first.absorb_first.Goals as goal
 
 pub returns : goal.returns

@@ -8,7 +8,6 @@ use Rattle.biscuit.proofs.Sizes.{shown_small}
 use Rattle.biscuit.proofs.Room.{mapped}
 use Rattle.turns.proofs.Sizes.{head_fits, path_fits, salt-short, path-length, leaves-length}
 use Rattle.turns.proofs.Turning.{rebuilt-work}
-use borrow.Author.Rules.{rules}
 use Rattle.turns.proofs.first.rebuild.Goals as goal
 
 pub overflow_mul-to : goal.overflow_mul-to

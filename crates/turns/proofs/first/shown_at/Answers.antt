@@ -6,7 +6,6 @@ use Rattle.sets.specs.Sets.{S}
 use Rattle.biscuit.specs.Signature.{head_length, shown_length, shown_at}
 use Rattle.biscuit.proofs.Sizes.{shown_small, all_shown_small}
 use Rattle.biscuit.proofs.Repeated.{among}
-use borrow.Author.Rules.{rules}
 use Rattle.turns.proofs.first.shown_at.Goals as goal
 
 pub overflow_mul-result-2 : goal.overflow_mul-result-2

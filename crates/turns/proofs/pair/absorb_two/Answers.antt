@@ -11,7 +11,6 @@ use Rattle.biscuit.specs.Room.{room_end}
 use Rattle.biscuit.specs.Signature.{extracted}
 use Rattle.turns.specs.Turns.{first_of}
 use Rattle.turns.proofs.Turning.{length_of_leaves, put-circuit, put-leaves, leaves-over}
-use borrow.Author.Rules.{rules}
 use Rattle.turns.proofs.pair.absorb_two.Goals as goal
 
 pub absorb_first-first-requires : goal.absorb_first-first-requires
@@ -33,7 +32,8 @@ returns c =
     let e = c.args.e in
     let within : e ≤ p.tau = (let z = c.requires.3 in omega arith) in
     let from : 1 ≤ e + 1 = omega arith in
-    let enough = subst (λ (k : ℕ). room_end p ≤ k) (sym c.rebuild.auto.work) c.requires.14 in record { turned = λ key is other v more h.
+    let enough = subst (λ (k : ℕ). room_end p ≤ k) (sym c.rebuild.auto.work) c.requires.14 in record {
+      turned = λ key is other v more h.
           let one = c.rebuild.ensures key is in
           let two = c.rebuild-2.ensures key other in
           let z = length_of_leaves p fit key x c.requires.8 e c.requires.2 within in
@@ -44,4 +44,6 @@ returns c =
           record {
             first = c.absorb_first-first.ensures key other more second ∙ ap (λ (h : Sponge). absorbed h (first_of p key (extracted p x) (e + 1))) (c.absorb_first-next.ensures key is v first);
             second = c.second_two-second.ensures key is other v more (c.keep_leaves.ensures ∙ first) second (subst (HoldsCircuit p.n p.m (f p key)) (sym circuit) h);
-          }; rebuilt = λ key is other. leaves-over p fit key x c.requires.8 e c.requires.2 c.requires.3 w _ _ c.requires.14 (c.rebuild.ensures key is) (c.rebuild-2.ensures key other) }
+          };
+      rebuilt = λ key is other. leaves-over p fit key x c.requires.8 e c.requires.2 c.requires.3 w _ _ c.requires.14 (c.rebuild.ensures key is) (c.rebuild-2.ensures key other);
+    }

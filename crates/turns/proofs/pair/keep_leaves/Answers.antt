@@ -5,7 +5,6 @@ use native.Mathlib.Omega.{arith}
 use Rattle.memory.proofs.Stores.{over-whole}
 use Rattle.biscuit.proofs.Room.{mapped}
 use Rattle.turns.proofs.Answering.{leaves-lent, leaves-sized}
-use borrow.Author.Rules.{rules}
 use Rattle.turns.proofs.pair.keep_leaves.Goals as goal
 
 pub slice_bounds-copy-count : goal.slice_bounds-copy-count

@@ -13,7 +13,6 @@ use Rattle.turns.proofs.Reading.{values_cut}
 use Rattle.turns.proofs.Turning.{answered_as, salt_is}
 use Rattle.reps.proofs.Laws.{rep_sized, rep_one}
 use Rattle.turns.proofs.Answering.{rep_variables, rep_equations, rep_values, rep_circuit, rep_leaves, rep_holds, circuit-lent, circuit-sized, leaves-lent, leaves-sized}
-use borrow.Author.Rules.{rules}
 use Rattle.turns.proofs.pair.second_two.Goals as goal
 
 pub slice_bounds-two_repetitions-end : goal.slice_bounds-two_repetitions-end

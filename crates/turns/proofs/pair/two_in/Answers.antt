@@ -8,7 +8,6 @@ use Rattle.biscuit.specs.Keys.{public_key_of}
 use Rattle.biscuit.proofs.Room.{hidden_from_one, hidden-within}
 use Rattle.turns.specs.Turns.{challenges_part}
 use Rattle.turns.proofs.Reading.{read_elements_small, values_are}
-use borrow.Author.Rules.{rules}
 use Rattle.turns.proofs.pair.two_in.Goals as goal
 
 pub absorb_two-requires : goal.absorb_two-requires

@@ -8,7 +8,6 @@ use Rattle.vectors.specs.Elements.{elements_at}
 use Rattle.biscuit.proofs.Repeated.{among}
 use Rattle.turns.proofs.Sizes.{packing_fits, corrections_small, alphas_small}
 use Rattle.turns.proofs.Reading.{alpha_read, lent-rest}
-use borrow.Author.Rules.{rules}
 use Rattle.turns.proofs.values.read_alpha.Goals as goal
 
 pub overflow_mul-at : goal.overflow_mul-at

@@ -12,7 +12,6 @@ use Rattle.biscuit.proofs.Repeated.{among}
 use Rattle.biscuit.proofs.Room.{mapped}
 use Rattle.turns.proofs.Sizes.{challenges_small}
 use Rattle.turns.proofs.Reading.{challenge_read}
-use borrow.Author.Rules.{rules}
 use Rattle.turns.proofs.values.read_challenge.Goals as goal
 
 pub slice_bounds-read_elements-count : goal.slice_bounds-read_elements-count

@@ -8,7 +8,6 @@ use Rattle.vectors.specs.Elements.{elements_at}
 use Rattle.biscuit.proofs.Repeated.{among}
 use Rattle.turns.proofs.Sizes.{packing_fits, corrections_small, alphas_small}
 use Rattle.turns.proofs.Reading.{corrections_read, lent-rest}
-use borrow.Author.Rules.{rules}
 use Rattle.turns.proofs.values.read_corrections.Goals as goal
 
 pub slice_bounds-read_elements-count : goal.slice_bounds-read_elements-count

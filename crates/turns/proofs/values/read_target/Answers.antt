@@ -7,7 +7,6 @@ use Rattle.sets.specs.Sets.{S}
 use Rattle.vectors.specs.Elements.{elements_at}
 use Rattle.turns.proofs.Sizes.{seed_fits}
 use Rattle.turns.proofs.Reading.{target_read, lent-rest}
-use borrow.Author.Rules.{rules}
 use Rattle.turns.proofs.values.read_target.Goals as goal
 
 pub slice_bounds-read_elements-count : goal.slice_bounds-read_elements-count

@@ -2,7 +2,6 @@
 -- Assumes nothing.
 use Rattle.turns.specs.Turns.{challenges_part}
 use Rattle.turns.proofs.Reading.{last-room, values_laid}
-use borrow.Author.Rules.{rules}
 use Rattle.turns.proofs.values.read_values.Goals as goal
 
 pub read_alpha-requires : goal.read_alpha-requires
