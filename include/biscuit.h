@@ -14,7 +14,7 @@
  *   - Nothing is allocated, nothing is kept from call to call, and no random number is drawn. Calls may run at the same time, each
  *     with its own work and outputs.
  *   - The stack that a call takes is at most 4 KB for biscuit_make_keys and biscuit_public_half, 72 KB for biscuit_sign and
- *     biscuit_verify, 1 KB for an envelope, as measured on 64-bit Arm (docs/DECISIONS.md, "Stack"); bench/stack measures it on another
+ *     biscuit_verify, 1 KB for an envelope, as measured on x86-64 (docs/DECISIONS.md, "Stack"); bench/stack measures it on another
  *     machine. What was on it is not all cleared.
  *   - The four high bits behind an odd last element of a key mean nothing (the last byte of public keys of sets 1, 2, 5 and 6, and
  *     of secret keys of sets 3 and 4): the library writes them as 0 and ignores them in a key that it is lent. Salt and roots
