@@ -53,7 +53,7 @@ pieces-take w n x =
     ∙ drop-take (i * w) w x
     ∙ sym (get_or-pieces w n x i g))
 
--- the path of repetition e is cut from the L-as-S bytes where it lies
+-- the path of repetition e is cut from the L·S bytes where it lies
 pub path_read : (P : Params) (x : List ℕ) (e : ℕ) → (opening_of P x e).path ≡ pieces (S P) P.l (take (P.l * S P) (drop (shown_at P e) x))
 unfolding opening_of
 path_read P x e = sym (pieces-take (S P) P.l (drop (shown_at P e) x))

@@ -1,4 +1,4 @@
--- The system of equations f = A0 + A1-as-A2 with affine forms: its expansion from a seed (algorithm 8 of the submission) and its values (algorithms 9 and 10).
+-- The system of equations f = A0 + A1·A2 with affine forms: its expansion from a seed (algorithm 8 of the submission) and its values (algorithms 9 and 10).
 -- There are m equations in n variables. Every definition is total: `linear`, `affine` and `evaluate` take any vector. Assumes nothing.
 use Rattle.std.specs.Prelude.{cond, List, [], ◌∷◌, map, ◌≡◌, ℕ, zero, suc, ◌+◌, ◌*◌, eqb}
 use Rattle.field.specs.Packing.{packed_length}
@@ -52,7 +52,7 @@ linear A s = map (λ row. dot row s) A.rows
 unfoldable pub affine : Affine → List ℕ → List ℕ
 affine A s = A.constants ⊕ linear A s
 
--- algorithm 8, line 10: f(s), f = A0 + A1-as-A2
+-- algorithm 8, line 10: f(s), f = A0 + A1·A2
 unfoldable pub evaluate : Circuit → List ℕ → List ℕ
 evaluate f s = affine f.A0 s ⊕ affine f.A1 s ⊙ affine f.A2 s
 

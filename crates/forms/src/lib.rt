@@ -42,7 +42,7 @@ pub fn hidden_party(bytes: &[u8], l: usize, e: usize) -> usize
 // Algorithm 10, EvalCircuit: y and t of the secret s, an element to a byte.
 pub fn eval_circuit(circuit: &[u8], n: usize, m: usize, s: &[u8], y: &mut [u8], t: &mut [u8])
     requires { (n ≤ 118) × (m ≤ 121) × (length circuit.now ≡ circuit_length n m) × (length s.now ≡ n) × (length y.old ≡ m) × (length t.old ≡ m) }
-    ensures { (f : Circuit) → HoldsCircuit n m f circuit.now → eval_circuit s.now f ≡ record { y = y.exit.now; t = t.new } }
+    ensures { (f : Circuit) → HoldsCircuit n m f circuit.now → eval_circuit s.now f ≡ record { y = y.new; t = t.new } }
 {
     let products = field::products();
     let size = m / 2 + m % 2 + m * (n / 2 + n % 2);

@@ -40,7 +40,7 @@ secret_key_length P = S P + packed_length (P.n + P.m + P.m)
 unfoldable pub public_key_length : Params → ℕ
 public_key_length P = S P + packed_length P.m
 
--- "A signature is salt (2S), first hash (2S), second hash (2S); for each repetition the path (L-as-S) and hidden commitment (2S);
+-- "A signature is salt (2S), first hash (2S), second hash (2S); for each repetition the path (L·S) and hidden commitment (2S);
 -- then one packing of all Δs and Δc pairs followed by all hidden α"
 unfoldable pub signature_length : Params → ℕ
 signature_length P =

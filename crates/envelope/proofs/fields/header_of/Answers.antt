@@ -1,4 +1,4 @@
--- `envelope::fields::header_of_lem` meets its contract: the fields of three whole bytes. Assumes nothing.
+-- `envelope::fields::header_of` meets its contract: the fields of three whole bytes. Assumes nothing.
 use mathlib.Core.Path.{sym}
 use Rattle.envelope.proofs.Heading.{header_of_bytes}
 use Rattle.envelope.proofs.fields.header_of.Goals as goal
