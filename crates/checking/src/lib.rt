@@ -3,24 +3,34 @@
 
 #![tactic(auto)]
 
-ghost use Rattle.std.specs.Prelude.{◌≡◌, length};
+ghost use Rattle.std.specs.Prelude.{◌≡◌, ◌≤◌, length, IfOk};
 ghost use Rattle.report.specs.Report.{input_limit};
 
-use libc::STDOUT_FILENO;
 use report::{INPUT, ROOM};
+use std::io;
+use std::io::Read;
 
 // Checks the clip in an open file, and prints its line.
-pub fn check(file: i32) {
+pub fn check<R: Read + Drop>(rt: HostRuntime, mut file: R) -> io::Result<()> {
     let mut input = [0u8; INPUT];
-    let n = read(file, &mut input);
+    let n = read(&mut file, &mut input)?;
     let mut line = [0u8; ROOM];
     let count = report::clip_line(&input, n, &mut line);
-    io::write_all(STDOUT_FILENO, &line[..count]);
+    rt.write_all(&line[..count])
 }
 
 // Reads as much of a file as the program reads, and gives how many bytes that was.
-fn read(file: i32, input: &mut [u8]) -> usize
+fn read<R: Read>(file: &mut R, input: &mut [u8]) -> io::Result<usize>
     requires { length input.old ≡ input_limit }
+    ensures { IfOk result (λ n. n ≤ length input.new) }
 {
-    io::read_full(file, input)
+    let mut done = 0;
+    while done < input.len() {
+        let n = file.read(&mut input[done..])?;
+        if n == 0 {
+            break;
+        }
+        done += n;
+    }
+    Ok(done)
 }

@@ -2,8 +2,8 @@
 
 #![tactic(auto)]
 
-use libc::STDIN_FILENO;
+use std::io;
 
-fn main() {
-    checking::check(STDIN_FILENO);
+fn main(rt: HostRuntime) -> io::Result<()> {
+    checking::check(rt, rt.stdin())
 }

@@ -1,9 +1,14 @@
--- What the promises of this crate settle. Those that fill a part have one outcome. Those that print hand nothing back and change nothing that is lent, so that they have one outcome too; what they print is no
--- part of it: no contract can speak of what is written to a file. Assumes nothing.
-use mathlib.Core.Path.{refl, sym, ap, ◌∙◌}
+-- What the promises of this crate settle. Those that fill a part have one outcome. Those that print hand no value back and change nothing that is lent: any two of their outcomes in which all was printed are
+-- equal. Whether printing fails is for no promise to say, and what they print is no part of it: no contract can speak of what is written to a file. Assumes nothing.
+use mathlib.Core.Path.{◌≡◌, refl, sym, ap, ◌∙◌}
 use mathlib.Core.List.{List}
 use Prim.Native.Nat.{ℕ}
-use Rattle.memory.specs.Outcome.{OneOutcome}
+use contract.Lifetimes.{Lfts}
+use borrow.Fn.Kinds.{ParamKind, ResultKind, In, Out, Dens, GoodsP}
+use Rattle.std.specs.Prelude.{Ok, Err, IsOk}
+use Rattle.std.proofs.Common.{true≢false}
+use Rattle.std.specs.declared.result.Result.{Result}
+use Rattle.memory.specs.Outcome.{Outcome, Allowed, OneOutcome}
 use Rattle.lines.proofs.words as words
 use Rattle.lines.proofs.number as number
 use Rattle.lines.proofs.bytes_line as bytes-line
@@ -12,20 +17,33 @@ use Rattle.lines.proofs.hash_line as hash-line
 use Rattle.lines.proofs.progression as progression
 use Rattle.lines.proofs.elements as elements
 
-pub words_one_outcome : OneOutcome words.Kinds.ps words.Kinds.r words.Reads.Asked words.Reads.Learnt
-words_one_outcome κs a good asked o q x y = refl
+-- two results that are `Ok` are equal, where any two values are
+ok_same : {A E : Type 0} → ((x y : A) → x ≡ y) → (r q : Result A E) → IsOk r → IsOk q → r ≡ q
+ok_same same (Ok x) (Ok y) g h = ap Ok (same x y)
+ok_same same (Ok x) (Err e) g h = absurd (true≢false (sym h))
+ok_same same (Err e) q g h = absurd (true≢false (sym g))
 
-pub number_one_outcome : OneOutcome number.Kinds.ps number.Kinds.r number.Reads.Asked number.Reads.Learnt
-number_one_outcome κs a good asked o q x y = refl
+-- any two outcomes that are allowed, and in which `Good` holds, are equal
+module _ {n : ℕ} (ps : List (ParamKind n)) (r : ResultKind n) (asked : In n ps) (learnt : Out n ps r) where
+  abbrev OneOutcomeWhere : ((κs : Lfts n) (a : Dens κs ps) → Outcome ps r κs a → Type 0) → Type 0
+  OneOutcomeWhere Good =
+      (κs : Lfts n) (a : Dens κs ps) → GoodsP κs ps a → asked κs a
+      → (o q : Outcome ps r κs a) → Allowed ps r asked learnt κs a o → Allowed ps r asked learnt κs a q → Good κs a o → Good κs a q → o ≡ q
 
-pub bytes_line_one_outcome : OneOutcome bytes-line.Kinds.ps bytes-line.Kinds.r bytes-line.Reads.Asked bytes-line.Reads.Learnt
-bytes_line_one_outcome κs a good asked o q x y = refl
+pub words_one_outcome : OneOutcomeWhere words.Kinds.ps words.Kinds.r words.Reads.Asked words.Reads.Learnt (λ κs a o. IsOk o.0)
+words_one_outcome κs a good asked o q x y g h = ap (λ r. (r, o.1)) (ok_same (λ x y. refl) o.0 q.0 g h)
 
-pub digest_line_one_outcome : OneOutcome digest-line.Kinds.ps digest-line.Kinds.r digest-line.Reads.Asked digest-line.Reads.Learnt
-digest_line_one_outcome κs a good asked o q x y = refl
+pub number_one_outcome : OneOutcomeWhere number.Kinds.ps number.Kinds.r number.Reads.Asked number.Reads.Learnt (λ κs a o. IsOk o.0)
+number_one_outcome κs a good asked o q x y g h = ap (λ r. (r, o.1)) (ok_same (λ x y. refl) o.0 q.0 g h)
 
-pub hash_line_one_outcome : OneOutcome hash-line.Kinds.ps hash-line.Kinds.r hash-line.Reads.Asked hash-line.Reads.Learnt
-hash_line_one_outcome κs a good asked o q x y = refl
+pub bytes_line_one_outcome : OneOutcomeWhere bytes-line.Kinds.ps bytes-line.Kinds.r bytes-line.Reads.Asked bytes-line.Reads.Learnt (λ κs a o. IsOk o.0)
+bytes_line_one_outcome κs a good asked o q x y g h = ap (λ r. (r, o.1)) (ok_same (λ x y. refl) o.0 q.0 g h)
+
+pub digest_line_one_outcome : OneOutcomeWhere digest-line.Kinds.ps digest-line.Kinds.r digest-line.Reads.Asked digest-line.Reads.Learnt (λ κs a o. IsOk o.0)
+digest_line_one_outcome κs a good asked o q x y g h = ap (λ r. (r, o.1)) (ok_same (λ x y. refl) o.0 q.0 g h)
+
+pub hash_line_one_outcome : OneOutcomeWhere hash-line.Kinds.ps hash-line.Kinds.r hash-line.Reads.Asked hash-line.Reads.Learnt (λ κs a o. IsOk o.0)
+hash_line_one_outcome κs a good asked o q x y g h = ap (λ r. (r, o.1)) (ok_same (λ x y. refl) o.0 q.0 g h)
 
 pub progression_one_outcome : OneOutcome progression.Kinds.ps progression.Kinds.r progression.Reads.Asked progression.Reads.Learnt
 progression_one_outcome κs a good asked o q x y = ap (λ (l : List ℕ). (tt, (tt, (tt, (l, tt))))) (x.promised ∙ sym y.promised)

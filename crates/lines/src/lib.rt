@@ -7,45 +7,46 @@ ghost use Rattle.std.specs.Prelude.{◌≡◌, ◌+◌, ◌*◌, ◌%◌, ◌<�
 ghost use Rattle.memory.specs.Lists.{table};
 ghost use Rattle.field.specs.Packing.{Elements};
 
-use libc::STDOUT_FILENO;
 use sponge::Sponge;
+use std::io;
 
 // The name of a case, a part at a time.
-pub fn words(text: &[u8]) {
-    io::write_all(STDOUT_FILENO, text);
+pub fn words(rt: HostRuntime, text: &[u8]) -> io::Result<()> {
+    rt.write_all(text)
 }
 
 // A number in the name of a case.
-pub fn number(n: usize) {
-    io::print_decimal(STDOUT_FILENO, n as u64);
+pub fn number(rt: HostRuntime, n: usize) -> io::Result<()> {
+    rt.print(n)
 }
 
 // A colon, the bytes in hexadecimal and the end of the line.
-pub fn bytes_line(bytes: &[u8]) {
-    io::write_all(STDOUT_FILENO, b":");
+pub fn bytes_line(rt: HostRuntime, bytes: &[u8]) -> io::Result<()> {
+    rt.write_all(b":")?;
     if 0 < bytes.len() {
-        io::write_all(STDOUT_FILENO, b" ");
+        rt.write_all(b" ")?;
     }
     let mut i = 0;
     while i < bytes.len() {
-        io::print_hex(STDOUT_FILENO, wide(bytes[i]), 2);
+        let b = wide(bytes[i]);
+        print!(rt; "{b:02x}")?;
         i += 1;
     }
-    io::write_all(STDOUT_FILENO, b"\n");
+    rt.write_all(b"\n")
 }
 
 // Bytes that are many, as 32 bytes of SHAKE256.
-pub fn digest_line(bytes: &[u8]) {
+pub fn digest_line(rt: HostRuntime, bytes: &[u8]) -> io::Result<()> {
     let s = Sponge::new();
-    hash_line(s.absorb(bytes));
+    hash_line(rt, s.absorb(bytes))
 }
 
 // What was absorbed, as 32 bytes of SHAKE256.
-pub fn hash_line(hash: Sponge) {
+pub fn hash_line(rt: HostRuntime, hash: Sponge) -> io::Result<()> {
     let mut digest = [0u8; 32];
     let t = hash.finish();
     t.squeeze(&mut digest);
-    bytes_line(&digest);
+    bytes_line(rt, &digest)
 }
 
 // Fills `out`: the i-th byte is step times i plus start, modulo 256.

@@ -3,9 +3,10 @@
 
 #![tactic(auto)]
 
-ghost use Rattle.std.specs.Prelude.{◌≤◌, ◌<◌, length};
+ghost use Rattle.std.specs.Prelude.{◌≤◌, ◌<◌, length, IfOk};
 
-use libc::STDOUT_FILENO;
+use std::io::{Read, Write};
+use std::{fs, io, str};
 
 // The width of a case, and where its columns begin and end.
 const CASE: usize = 72;
@@ -19,45 +20,36 @@ const CASES: usize = 16384;
 
 const LONGEST: usize = 70000;
 
-fn main() {
+fn main(rt: HostRuntime) -> io::Result<()> {
     let mut cases = [0u8; CASES];
-    let file = os::open_read(b"cases");
-    if file < 0 {
-        os::fail(b"cases");
-        return;
-    }
-    let n = io::read_full(file, &mut cases);
-    libc::close(file);
-    run_all(&cases[..n]);
+    let n = load(rt, "cases", &mut cases)?;
+    run_all(rt, &cases[..n])
 }
 
 // Runs every whole case of the list.
-fn run_all(cases: &[u8]) {
+fn run_all(rt: HostRuntime, cases: &[u8]) -> io::Result<()> {
     let mut at = 0;
     while at + CASE <= cases.len() {
-        run(&cases[at..at + CASE]);
+        run(rt, &cases[at..at + CASE])?;
         at += CASE;
     }
+    Ok(())
 }
 
 // Runs one case: prints its name, makes its clip, and checks that.
-fn run(case: &[u8]) {
+fn run(rt: HostRuntime, case: &[u8]) -> io::Result<()> {
     if case.len() < CASE {
-        return;
+        return Ok(());
     }
-    io::write_all(STDOUT_FILENO, &case[0..name_len(case)]);
-    io::write_all(STDOUT_FILENO, b": ");
-    if !make(case) {
-        io::write_all(STDOUT_FILENO, b"no clip was made\n");
-        return;
+    rt.write_all(&case[0..name_len(case)])?;
+    rt.write_all(b": ")?;
+    if !make(rt, case) {
+        return rt.write_all(b"no clip was made\n");
     }
-    let file = os::open_read(b"made");
-    if file < 0 {
-        io::write_all(STDOUT_FILENO, b"no clip was opened\n");
-        return;
+    match fs::open(&rt, "made") {
+        Ok(file) => checking::check(rt, file),
+        Err(_) => rt.write_all(b"no clip was opened\n"),
     }
-    checking::check(file);
-    libc::close(file);
 }
 
 // How long the name of a case is: what stands before the last spaces of its column.
@@ -76,18 +68,18 @@ fn name_len(case: &[u8]) -> usize
 }
 
 // Makes the clip of a case, and stores it under the name `made`; false where a file could not be read or written.
-fn make(case: &[u8]) -> bool
+fn make(rt: HostRuntime, case: &[u8]) -> bool
     requires { 72 ≤ length case.now }
 {
     let mut clip = [0u8; LONGEST];
-    let file = os::open_read(&case[NAME_END..CLIP_END]);
-    if file < 0 {
+    let Ok(name) = str::from_utf8(&case[NAME_END..CLIP_END]) else {
+        return false;
+    };
+    if load(rt, name, &mut clip).is_err() {
         return false;
     }
-    io::read_full(file, &mut clip);
-    libc::close(file);
     turn(&mut clip, number(&case[62..67]), number(&case[68..71]));
-    store(&clip, number(&case[56..61]))
+    store(rt, &clip, number(&case[56..61]))
 }
 
 // Adds bits to one byte by exclusive or.
@@ -98,17 +90,33 @@ fn turn(clip: &mut [u8], place: usize, bits: usize) {
 }
 
 // Stores so many bytes of the clip.
-fn store(clip: &[u8], length: usize) -> bool {
+fn store(rt: HostRuntime, clip: &[u8], length: usize) -> bool {
     if clip.len() < length {
         return false;
     }
-    let file = os::open_overwrite(b"made");
-    if file < 0 {
-        return false;
+    match fs::create(&rt, "made") {
+        Ok(made) => {
+            let mut file = made;
+            file.write_all(&clip[0..length]).is_ok()
+        }
+        Err(_) => false,
     }
-    let written = io::write_all(file, &clip[0..length]);
-    libc::close(file);
-    written
+}
+
+// Reads the file of that name over the start of a part, until the part is full or the file ends, and gives how many bytes that was.
+fn load(rt: HostRuntime, name: &str, part: &mut [u8]) -> io::Result<usize>
+    ensures { IfOk result (λ n. n ≤ length part.new) }
+{
+    let mut file = fs::open(&rt, name)?;
+    let mut done = 0;
+    while done < part.len() {
+        let n = file.read(&mut part[done..])?;
+        if n == 0 {
+            break;
+        }
+        done += n;
+    }
+    Ok(done)
 }
 
 // The number that digits spell in decimal, modulo a million.

@@ -1,46 +1,47 @@
 // What the rest of a line says of the bytes that a call was lent: outputs and work are filled before the call, so that a byte that it wrote shows.
 use sponge::Sponge;
+use std::io;
 
 // The bytes of work that a call uses.
 const WORK: usize = 65536;
 
 // The answer, and what became of work.
-pub fn ended(answer: u8, work: &[u8]) {
-    lines::words(b": answer ");
-    lines::number(memory::wide(answer));
+pub fn ended(rt: HostRuntime, answer: u8, work: &[u8]) -> io::Result<()> {
+    lines::words(rt, b": answer ")?;
+    lines::number(rt, memory::wide(answer))?;
     if is_left(0, work) {
-        lines::words(b", work as it was");
-        return;
+        lines::words(rt, b", work as it was")?;
+        return Ok(());
     }
     if is_left(WORK, work) {
-        lines::words(b", work cleared");
-        return;
+        lines::words(rt, b", work cleared")?;
+        return Ok(());
     }
-    lines::words(b", work changed");
+    lines::words(rt, b", work changed")
 }
 
 // All bytes of an output by their digest, where they are not as they were.
-pub fn output(bytes: &[u8]) {
+pub fn output(rt: HostRuntime, bytes: &[u8]) -> io::Result<()> {
     if is_left(0, bytes) {
-        lines::words(b", output as it was\n");
-        return;
+        lines::words(rt, b", output as it was\n")?;
+        return Ok(());
     }
-    lines::words(b", output");
-    lines::digest_line(bytes);
+    lines::words(rt, b", output")?;
+    lines::digest_line(rt, bytes)
 }
 
 // The same of two outputs, one after the other.
-pub fn outputs(first: &[u8], second: &[u8]) {
+pub fn outputs(rt: HostRuntime, first: &[u8], second: &[u8]) -> io::Result<()> {
     if is_left(0, first) {
         if is_left(0, second) {
-            lines::words(b", output as it was\n");
-            return;
+            lines::words(rt, b", output as it was\n")?;
+            return Ok(());
         }
     }
     let s = Sponge::new();
     let t = s.absorb(first);
-    lines::words(b", output");
-    lines::hash_line(t.absorb(second));
+    lines::words(rt, b", output")?;
+    lines::hash_line(rt, t.absorb(second))
 }
 
 // Fills a part before a call.

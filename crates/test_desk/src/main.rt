@@ -5,63 +5,89 @@
 #![tactic(auto)]
 
 mod line;
-mod marks;
 mod places;
+mod row_marks;
 mod runs;
 mod table;
 
 use crate::places::{SIGNATURE, STORE};
 use crate::table::{ROW, ROWS};
+use std::io;
 
 // The rows of all sets, as if there were a set 0.
 const END: usize = 658;
 
-fn main() {
+fn main(rt: HostRuntime) -> io::Result<()> {
     let mut store = [0u8; STORE];
     let mut signature = [0u8; SIGNATURE];
     lines::progression(11, 7, &mut store);
-    all(&mut store, &mut signature);
+    all(rt, &mut store, &mut signature)
 }
 
 // Runs all cases. What the calls take is in the store, where keys are put too; the last signature is beside it.
-fn all(store: &mut [u8; STORE], signature: &mut [u8; SIGNATURE]) {
+fn all(
+    rt: HostRuntime,
+    store: &mut [u8; STORE],
+    signature: &mut [u8; SIGNATURE],
+) -> io::Result<()> {
     let mut i = ROWS;
     while i < END {
-        case(i / ROWS, i % ROWS, store, signature);
+        case(rt, i / ROWS, i % ROWS, store, signature)?;
         i += 1;
     }
+    Ok(())
 }
 
 // Runs the case of a row, where the set has it.
-fn case(set: usize, i: usize, store: &mut [u8; STORE], signature: &mut [u8; SIGNATURE]) {
+fn case(
+    rt: HostRuntime,
+    set: usize,
+    i: usize,
+    store: &mut [u8; STORE],
+    signature: &mut [u8; SIGNATURE],
+) -> io::Result<()> {
     let mut row = [b' '; ROW];
     table::row(i, &mut row);
-    if marks::named(set, &row) {
-        changed(set, &row, store, signature);
+    if row_marks::named(rt, set, &row)? {
+        changed(rt, set, &row, store, signature)?;
     }
+    Ok(())
 }
 
 // Runs a case with its bits changed, and puts them back.
-fn changed(set: usize, row: &[u8; ROW], store: &mut [u8; STORE], signature: &mut [u8; SIGNATURE]) {
-    marks::change(set, row, store, signature);
-    run(set, row, store, signature);
-    marks::change(set, row, store, signature);
+fn changed(
+    rt: HostRuntime,
+    set: usize,
+    row: &[u8; ROW],
+    store: &mut [u8; STORE],
+    signature: &mut [u8; SIGNATURE],
+) -> io::Result<()> {
+    row_marks::change(set, row, store, signature);
+    run(rt, set, row, store, signature)?;
+    row_marks::change(set, row, store, signature);
+    Ok(())
 }
 
 // Makes the call of a case.
-fn run(set: usize, row: &[u8; ROW], store: &mut [u8; STORE], signature: &mut [u8; SIGNATURE]) {
+fn run(
+    rt: HostRuntime,
+    set: usize,
+    row: &[u8; ROW],
+    store: &mut [u8; STORE],
+    signature: &mut [u8; SIGNATURE],
+) -> io::Result<()> {
     let call = row[0];
     if call == b'1' {
-        runs::make_keys(set, row, store);
-        return;
+        runs::make_keys(rt, set, row, store)?;
+        return Ok(());
     }
     if call == b'2' {
-        runs::public_half(set, row, store);
-        return;
+        runs::public_half(rt, set, row, store)?;
+        return Ok(());
     }
     if call == b'3' {
-        runs::sign(set, row, store, signature);
-        return;
+        runs::sign(rt, set, row, store, signature)?;
+        return Ok(());
     }
-    runs::verify(set, row, store, signature);
+    runs::verify(rt, set, row, store, signature)
 }

@@ -4,12 +4,13 @@ ghost use Rattle.std.specs.Prelude.{◌≡◌, ◌≤◌, length};
 use crate::{print, vectors};
 use sets::{LONGEST_HASH, MOST_REPETITIONS};
 use sponge::Sponge;
+use std::io;
 
 // The bytes of all challenges of the longest set.
 const CHALLENGES: usize = 4453;
 
 // The challenges of all repetitions.
-pub fn challenges(set: usize, s: usize, m: usize, tau: usize)
+pub fn challenges(rt: HostRuntime, set: usize, s: usize, m: usize, tau: usize) -> io::Result<()>
     requires { (s ≤ 32) × (m ≤ 121) × (tau ≤ 73) }
 {
     let mut hash = [0u8; LONGEST_HASH];
@@ -18,12 +19,12 @@ pub fn challenges(set: usize, s: usize, m: usize, tau: usize)
     let e = 2 * s;
     forms::tape_bytes(&hash[0..e], &mut bytes);
     let all = vectors::absorb_vectors(Sponge::new(), &bytes, 0, m, tau);
-    print::case(set, b"challenges, digest");
-    lines::hash_line(all);
+    print::case(rt, set, b"challenges, digest")?;
+    lines::hash_line(rt, all)
 }
 
 // The hidden parties of all repetitions.
-pub fn hidden_parties(set: usize, s: usize, tau: usize, l: usize)
+pub fn hidden_parties(rt: HostRuntime, set: usize, s: usize, tau: usize, l: usize) -> io::Result<()>
     requires { (s ≤ 32) × (tau ≤ 73) × (l ≤ 8) }
 {
     let mut hash = [0u8; LONGEST_HASH];
@@ -32,16 +33,22 @@ pub fn hidden_parties(set: usize, s: usize, tau: usize, l: usize)
     let mut hidden = [0u8; MOST_REPETITIONS];
     let e = 2 * s;
     forms::tape_bytes(&hash[0..e], &mut bytes);
-    hidden_line(set, &bytes[0..tau], l, &mut hidden[0..tau]);
+    hidden_line(rt, set, &bytes[0..tau], l, &mut hidden[0..tau])
 }
 
 // The same, with room for them.
-fn hidden_line(set: usize, bytes: &[u8], l: usize, hidden: &mut [u8])
+fn hidden_line(
+    rt: HostRuntime,
+    set: usize,
+    bytes: &[u8],
+    l: usize,
+    hidden: &mut [u8],
+) -> io::Result<()>
     requires { (length hidden.old ≡ length bytes.now) × (l ≤ 8) }
 {
     all_hidden(bytes, l, hidden);
-    print::case(set, b"hidden parties less 1");
-    lines::bytes_line(hidden);
+    print::case(rt, set, b"hidden parties less 1")?;
+    lines::bytes_line(rt, hidden)
 }
 
 // Fills `out` with the hidden parties less 1.

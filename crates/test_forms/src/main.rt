@@ -11,39 +11,40 @@ mod shares;
 mod vectors;
 
 use sets::{LONGEST_SEED, MOST_EQUATIONS, MOST_REPETITIONS, MOST_VARIABLES};
+use std::io;
 
 // The most levels that a tree has.
 const LEVELS: usize = 8;
 
-fn main() {
-    one_set(1);
-    one_set(2);
-    one_set(3);
-    one_set(4);
-    one_set(5);
-    one_set(6);
+fn main(rt: HostRuntime) -> io::Result<()> {
+    one_set(rt, 1)?;
+    one_set(rt, 2)?;
+    one_set(rt, 3)?;
+    one_set(rt, 4)?;
+    one_set(rt, 5)?;
+    one_set(rt, 6)
 }
 
 // The lines of a set.
-fn one_set(set: usize) {
+fn one_set(rt: HostRuntime, set: usize) -> io::Result<()> {
     let p = sets::params_of(set);
     let s = p.bits / 8;
     if LONGEST_SEED < s {
-        return;
+        return Ok(());
     }
     if MOST_VARIABLES < p.n {
-        return;
+        return Ok(());
     }
     if MOST_EQUATIONS < p.m {
-        return;
+        return Ok(());
     }
     if MOST_REPETITIONS < p.tau {
-        return;
+        return Ok(());
     }
     if LEVELS < p.l {
-        return;
+        return Ok(());
     }
-    circuit::equations(set, s, p.n, p.m);
-    expanded::challenges(set, s, p.m, p.tau);
-    expanded::hidden_parties(set, s, p.tau, p.l);
+    circuit::equations(rt, set, s, p.n, p.m)?;
+    expanded::challenges(rt, set, s, p.m, p.tau)?;
+    expanded::hidden_parties(rt, set, s, p.tau, p.l)
 }

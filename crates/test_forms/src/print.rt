@@ -2,26 +2,27 @@
 ghost use Rattle.std.specs.Prelude.{◌≤◌, length};
 
 use crate::vectors;
+use std::io;
 
 // The name of a case.
-pub fn case(set: usize, text: &[u8]) {
-    lines::words(b"set ");
-    lines::number(set);
-    lines::words(b", ");
-    lines::words(text);
+pub fn case(rt: HostRuntime, set: usize, text: &[u8]) -> io::Result<()> {
+    lines::words(rt, b"set ")?;
+    lines::number(rt, set)?;
+    lines::words(rt, b", ")?;
+    lines::words(rt, text)
 }
 
 // The end of a line: the elements packed.
-pub fn packed_line(elements: &[u8])
+pub fn packed_line(rt: HostRuntime, elements: &[u8]) -> io::Result<()>
     requires { length elements.now ≤ 121 }
 {
     let mut bytes = [0u8; 64];
     let e = vectors::packed(elements.len());
-    packed_bytes(elements, &mut bytes[0..e]);
+    packed_bytes(rt, elements, &mut bytes[0..e])
 }
 
 // The same, with room for the bytes.
-fn packed_bytes(elements: &[u8], bytes: &mut [u8]) {
+fn packed_bytes(rt: HostRuntime, elements: &[u8], bytes: &mut [u8]) -> io::Result<()> {
     field::pack_into(elements, bytes);
-    lines::bytes_line(bytes);
+    lines::bytes_line(rt, bytes)
 }

@@ -5,9 +5,16 @@ ghost use Rattle.forms.specs.Room.{circuit_length};
 use crate::print;
 use sets::{MOST_EQUATIONS, MOST_VARIABLES};
 use sponge::Sponge;
+use std::io;
 
 // The linear parts of the three forms at the shares of sixteen parties.
-pub fn linear_parts(set: usize, n: usize, m: usize, circuit: &[u8])
+pub fn linear_parts(
+    rt: HostRuntime,
+    set: usize,
+    n: usize,
+    m: usize,
+    circuit: &[u8],
+) -> io::Result<()>
     requires { (n ≤ 118) × (m ≤ 121) × (length circuit.now ≡ circuit_length n m) }
 {
     let mut shares = [0u64; MOST_VARIABLES];
@@ -16,6 +23,7 @@ pub fn linear_parts(set: usize, n: usize, m: usize, circuit: &[u8])
     let mut y = [0u64; MOST_EQUATIONS];
     let mut z = [0u64; MOST_EQUATIONS];
     linear_parts_at(
+        rt,
         set,
         n,
         m,
@@ -24,11 +32,12 @@ pub fn linear_parts(set: usize, n: usize, m: usize, circuit: &[u8])
         &mut x[0..m],
         &mut y[0..m],
         &mut z[0..m],
-    );
+    )
 }
 
 // The same, with room for the three.
 fn linear_parts_at(
+    rt: HostRuntime,
     set: usize,
     n: usize,
     m: usize,
@@ -37,15 +46,15 @@ fn linear_parts_at(
     x: &mut [u64],
     y: &mut [u64],
     z: &mut [u64],
-)
+) -> io::Result<()>
     requires { (n ≤ 118) × (m ≤ 121) × (length circuit.now ≡ circuit_length n m) × (length shares.now ≡ n) × (length x.old ≡ m) × (length y.old ≡ m) × (length z.old ≡ m) }
 {
     linear::linear_forms(circuit, n, m, shares, x, y, z);
     let first = absorb_lanes(Sponge::new(), x);
     let second = absorb_lanes(first, y);
     let all = absorb_lanes(second, z);
-    print::case(set, b"linear forms of sixteen parties, digest");
-    lines::hash_line(all);
+    print::case(rt, set, b"linear forms of sixteen parties, digest")?;
+    lines::hash_line(rt, all)
 }
 
 // The shares, sixteen to a word: lane q of word i is 5 i + 3 q + 1 modulo 16.

@@ -4,48 +4,50 @@ ghost use Rattle.test_parties.specs.Laid.{Laid};
 use crate::cases::Case;
 use sets::LONGEST_HASH;
 use sponge::Sponge;
+use std::io;
 
 // The name of a case: signing, or verifying with a hidden party.
-fn name(k: Case) {
-    lines::words(b"set ");
-    lines::number(k.set);
+fn name(rt: HostRuntime, k: Case) -> io::Result<()> {
+    lines::words(rt, b"set ")?;
+    lines::number(rt, k.set)?;
     if k.hidden == 0 {
-        lines::words(b", signing");
-        return;
+        lines::words(rt, b", signing")?;
+        return Ok(());
     }
-    lines::words(b", hidden ");
-    lines::number(k.hidden);
+    lines::words(rt, b", hidden ")?;
+    lines::number(rt, k.hidden)?;
     if 0 < k.changed {
-        lines::words(b", changed path");
+        lines::words(rt, b", changed path")?;
     }
+    Ok(())
 }
 
 // The line of these bytes.
-pub fn bytes(k: Case, text: &[u8], bytes: &[u8]) {
-    name(k);
-    lines::words(text);
-    lines::bytes_line(bytes);
+pub fn bytes(rt: HostRuntime, k: Case, text: &[u8], bytes: &[u8]) -> io::Result<()> {
+    name(rt, k)?;
+    lines::words(rt, text)?;
+    lines::bytes_line(rt, bytes)
 }
 
 // The line of what the repetition gives to a hash.
-pub fn part(k: Case, text: &[u8], part: Sponge) {
-    name(k);
-    lines::words(text);
-    lines::hash_line(part);
+pub fn part(rt: HostRuntime, k: Case, text: &[u8], part: Sponge) -> io::Result<()> {
+    name(rt, k)?;
+    lines::words(rt, text)?;
+    lines::hash_line(rt, part)
 }
 
 // The line of a hash, which is put into `out`.
-pub fn hash(k: Case, text: &[u8], hash: Sponge, out: &mut [u8]) {
+pub fn hash(rt: HostRuntime, k: Case, text: &[u8], hash: Sponge, out: &mut [u8]) -> io::Result<()> {
     let t = hash.finish();
     t.squeeze(out);
-    bytes(k, text, out);
+    bytes(rt, k, text, out)
 }
 
 // The line of a hash of two seeds' length.
-pub fn hash_line(k: Case, text: &[u8], value: Sponge)
+pub fn hash_line(rt: HostRuntime, k: Case, text: &[u8], value: Sponge) -> io::Result<()>
     requires { Laid k }
 {
     let h = 2 * k.s;
     let mut out = [0u8; LONGEST_HASH];
-    hash(k, text, value, &mut out[0..h]);
+    hash(rt, k, text, value, &mut out[0..h])
 }

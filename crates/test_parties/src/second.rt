@@ -8,30 +8,51 @@ use crate::cases::{Case, REPETITION, VALUES, WORK};
 use crate::{inputs, print};
 use group::Rep;
 use sponge::Sponge;
+use std::io;
 
 // The line of what the repetition gives to the second hash, and the line of this hash.
-pub fn lines(k: Case, salt: &[u8], h1: &[u8], values: &mut [u8; VALUES], work: &mut [u8; WORK])
+pub fn lines(
+    rt: HostRuntime,
+    k: Case,
+    salt: &[u8],
+    h1: &[u8],
+    values: &mut [u8; VALUES],
+    work: &mut [u8; WORK],
+) -> io::Result<()>
     requires { (Laid k) × (length salt.now ≤ 64) }
 {
-    part_line(k, salt, values, work);
-    hash_line(k, salt, h1, values, work);
+    part_line(rt, k, salt, values, work)?;
+    hash_line(rt, k, salt, h1, values, work)
 }
 
 // The line of what the repetition gives to the second hash.
-fn part_line(k: Case, salt: &[u8], values: &mut [u8; VALUES], work: &mut [u8; WORK])
+fn part_line(
+    rt: HostRuntime,
+    k: Case,
+    salt: &[u8],
+    values: &mut [u8; VALUES],
+    work: &mut [u8; WORK],
+) -> io::Result<()>
     requires { (Laid k) × (length salt.now ≤ 64) }
 {
     let part = second_hash(Sponge::new(), k, salt, values, work);
-    print::part(k, b", all alpha and all v, digest", part);
+    print::part(rt, k, b", all alpha and all v, digest", part)
 }
 
 // The line of the second hash.
-fn hash_line(k: Case, salt: &[u8], h1: &[u8], values: &mut [u8; VALUES], work: &mut [u8; WORK])
+fn hash_line(
+    rt: HostRuntime,
+    k: Case,
+    salt: &[u8],
+    h1: &[u8],
+    values: &mut [u8; VALUES],
+    work: &mut [u8; WORK],
+) -> io::Result<()>
     requires { (Laid k) × (length salt.now ≤ 64) }
 {
     let start = hashes::second(salt, h1);
     let second = second_hash(start, k, salt, values, work);
-    print::hash_line(k, b", second hash", second);
+    print::hash_line(rt, k, b", second hash", second)
 }
 
 // The hash after the answers of all parties.

@@ -5,36 +5,51 @@ ghost use Rattle.test_parties.specs.Laid.{Laid};
 use crate::cases::{Case, VALUES, WORK};
 use crate::{first, inputs, print, second};
 use sponge::Sponge;
+use std::io;
 
 // The lines of signing. The vectors of the repetition are put into `values`, and the first hash into `h1`.
-pub fn lines(k: Case, salt: &[u8], h1: &mut [u8], values: &mut [u8; VALUES], work: &mut [u8; WORK])
+pub fn lines(
+    rt: HostRuntime,
+    k: Case,
+    salt: &[u8],
+    h1: &mut [u8],
+    values: &mut [u8; VALUES],
+    work: &mut [u8; WORK],
+) -> io::Result<()>
     requires { (Laid k) × (length salt.now ≤ 64) }
 {
     inputs::put_leaves(k, salt, work);
-    first_lines(k, salt, h1, values, work);
+    first_lines(rt, k, salt, h1, values, work)?;
     first::put_challenge(k, h1, values);
-    second::lines(k, salt, h1, values, work);
+    second::lines(rt, k, salt, h1, values, work)
 }
 
 // The lines of the corrections and of the first hash.
-fn first_lines(k: Case, salt: &[u8], h1: &mut [u8], values: &mut [u8; VALUES], work: &[u8; WORK])
+fn first_lines(
+    rt: HostRuntime,
+    k: Case,
+    salt: &[u8],
+    h1: &mut [u8],
+    values: &mut [u8; VALUES],
+    work: &[u8; WORK],
+) -> io::Result<()>
     requires { (Laid k) × (length salt.now ≤ 64) }
 {
     let part = first::signed(Sponge::new(), k, salt, values, work);
-    correction_lines(k, values);
-    print::part(k, b", commitments and corrections, digest", part);
+    correction_lines(rt, k, values)?;
+    print::part(rt, k, b", commitments and corrections, digest", part)?;
     let start = inputs::first_start(salt);
     let hash = first::signed(start, k, salt, values, work);
-    print::hash(k, b", first hash", hash, h1);
+    print::hash(rt, k, b", first hash", hash, h1)
 }
 
 // The lines of the corrections.
-fn correction_lines(k: Case, values: &[u8; VALUES])
+fn correction_lines(rt: HostRuntime, k: Case, values: &[u8; VALUES]) -> io::Result<()>
     requires { Laid k }
 {
     let vectors = &values[..];
     let n = k.n;
     let a = n + k.m;
-    print::bytes(k, b", delta s", &vectors[0..n]);
-    print::bytes(k, b", delta c", &vectors[n..a]);
+    print::bytes(rt, k, b", delta s", &vectors[0..n])?;
+    print::bytes(rt, k, b", delta c", &vectors[n..a])
 }

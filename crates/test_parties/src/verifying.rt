@@ -9,67 +9,85 @@ use crate::{inputs, print, second};
 use group::Rep;
 use sets::{LONGEST_HASH, LONGEST_SEED, MOST_EQUATIONS};
 use sponge::Sponge;
+use std::io;
 
 // The lines of a verifier; none where no party is hidden.
-pub fn lines(k: Case, salt: &[u8], h1: &[u8], values: &mut [u8; VALUES], work: &mut [u8; WORK])
+pub fn lines(
+    rt: HostRuntime,
+    k: Case,
+    salt: &[u8],
+    h1: &[u8],
+    values: &mut [u8; VALUES],
+    work: &mut [u8; WORK],
+) -> io::Result<()>
     requires { (Laid k) × (length salt.now ≤ 64) }
 {
     if k.hidden == 0 {
-        return;
+        return Ok(());
     }
     let s = k.s;
     let h = 2 * s;
     let mut seed = [0u8; LONGEST_SEED];
     let mut commitment = [0u8; LONGEST_HASH];
     first_lines(
+        rt,
         k,
         salt,
         &mut seed[0..s],
         &mut commitment[0..h],
         values,
         work,
-    );
-    second::lines(k, salt, h1, values, work);
+    )?;
+    second::lines(rt, k, salt, h1, values, work)
 }
 
 // The lines of α and of the first hash, with room for what the signer opens: the hidden party's seed and its commitment.
 fn first_lines(
+    rt: HostRuntime,
     k: Case,
     salt: &[u8],
     seed: &mut [u8],
     commitment: &mut [u8],
     values: &mut [u8; VALUES],
     work: &mut [u8; WORK],
-)
+) -> io::Result<()>
     requires { (Laid k) × (length salt.now ≤ 64) × (0 < k.hidden) × (length seed.old ≡ k.s) }
 {
     inputs::hidden_seed(k, salt, seed);
     hashes::commit(salt, REPETITION, k.hidden, seed, commitment);
-    put_alpha(k, salt, seed, values, work);
+    put_alpha(rt, k, salt, seed, values, work)?;
     inputs::put_leaves(k, salt, work);
-    hash_lines(k, salt, commitment, values, work);
+    hash_lines(rt, k, salt, commitment, values, work)
 }
 
 // Puts the α of the party with this seed into its place, and prints it.
-fn put_alpha(k: Case, salt: &[u8], seed: &[u8], values: &mut [u8; VALUES], work: &[u8; WORK])
+fn put_alpha(
+    rt: HostRuntime,
+    k: Case,
+    salt: &[u8],
+    seed: &[u8],
+    values: &mut [u8; VALUES],
+    work: &[u8; WORK],
+) -> io::Result<()>
     requires { (Laid k) × (length salt.now ≤ 64) × (0 < k.hidden) × (length seed.now ≡ k.s) }
 {
     let a = k.leaves;
     let m = k.m;
     let all = &work[..];
     let mut alpha = [0u8; MOST_EQUATIONS];
-    with_alpha(k, salt, seed, &all[0..a], &mut alpha[0..m], values);
+    with_alpha(rt, k, salt, seed, &all[0..a], &mut alpha[0..m], values)
 }
 
 // The same, with room for α.
 fn with_alpha(
+    rt: HostRuntime,
     k: Case,
     salt: &[u8],
     seed: &[u8],
     circuit: &[u8],
     alpha: &mut [u8],
     values: &mut [u8],
-)
+) -> io::Result<()>
     requires { (Laid k) × (length salt.now ≤ 64) × (0 < k.hidden) × (length seed.now ≡ k.s) × (length circuit.now ≡ k.leaves) × (length alpha.old ≡ k.m) × (length values.old ≡ 602) }
 {
     let from = k.n + 3 * k.m;
@@ -91,8 +109,9 @@ fn with_alpha(
         &mut values[0..to],
         alpha,
     );
-    alpha_line(k, alpha);
+    alpha_line(rt, k, alpha)?;
     memory::copy(alpha, &mut values[from..to]);
+    Ok(())
 }
 
 // Fills `alpha` with the α of party i.
@@ -112,21 +131,29 @@ fn alpha_into(
 }
 
 // The line of the hidden party's α, once for a party.
-fn alpha_line(k: Case, alpha: &[u8]) {
+fn alpha_line(rt: HostRuntime, k: Case, alpha: &[u8]) -> io::Result<()> {
     if k.changed == 0 {
-        print::bytes(k, b", alpha", alpha);
+        print::bytes(rt, k, b", alpha", alpha)?;
     }
+    Ok(())
 }
 
 // The lines of the first hash.
-fn hash_lines(k: Case, salt: &[u8], commitment: &[u8], values: &[u8; VALUES], work: &[u8; WORK])
+fn hash_lines(
+    rt: HostRuntime,
+    k: Case,
+    salt: &[u8],
+    commitment: &[u8],
+    values: &[u8; VALUES],
+    work: &[u8; WORK],
+) -> io::Result<()>
     requires { (Laid k) × (length salt.now ≤ 64) }
 {
     let part = first_hash(Sponge::new(), k, salt, commitment, values, work);
-    print::part(k, b", commitments and corrections, digest", part);
+    print::part(rt, k, b", commitments and corrections, digest", part)?;
     let start = inputs::first_start(salt);
     let first = first_hash(start, k, salt, commitment, values, work);
-    print::hash_line(k, b", first hash", first);
+    print::hash_line(rt, k, b", first hash", first)
 }
 
 // The hash after the commitments of all parties and both corrections.

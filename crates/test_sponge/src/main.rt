@@ -6,108 +6,105 @@
 
 ghost use Rattle.std.specs.Prelude.{◌≤◌, ◌<◌};
 
-use libc::STDOUT_FILENO;
 use sponge::{Sponge, Tape};
+use std::io;
 
-fn main() {
-    published();
-    inputs();
-    outputs();
-    far();
+fn main(rt: HostRuntime) -> io::Result<()> {
+    published(rt)?;
+    inputs(rt)?;
+    outputs(rt)?;
+    far(rt)
 }
 
 // The messages with published answers.
-fn published() {
+fn published(rt: HostRuntime) -> io::Result<()> {
     let mut out = [0u8; 512];
     let t = tape_of(b"");
     let after = t.squeeze(&mut out);
-    io::write_all(STDOUT_FILENO, b"empty message, 512 bytes");
-    lines::bytes_line(&out);
+    rt.write_all(b"empty message, 512 bytes")?;
+    lines::bytes_line(rt, &out)?;
     let message = [0xa3u8; 200];
     let u = tape_of(&message);
     let behind = u.squeeze(&mut out);
-    io::write_all(STDOUT_FILENO, b"200 bytes of a3, 512 bytes");
-    lines::bytes_line(&out);
+    rt.write_all(b"200 bytes of a3, 512 bytes")?;
+    lines::bytes_line(rt, &out)
 }
 
 // Both sides of a block at the input.
-fn inputs() {
-    input(0);
-    input(1);
-    input(135);
-    input(136);
-    input(137);
-    input(271);
-    input(272);
-    input(273);
+fn inputs(rt: HostRuntime) -> io::Result<()> {
+    input(rt, 0)?;
+    input(rt, 1)?;
+    input(rt, 135)?;
+    input(rt, 136)?;
+    input(rt, 137)?;
+    input(rt, 271)?;
+    input(rt, 272)?;
+    input(rt, 273)
 }
 
 // Both sides of a block at the output.
-fn outputs() {
-    output(0);
-    output(1);
-    output(135);
-    output(136);
-    output(137);
-    output(272);
-    output(273);
+fn outputs(rt: HostRuntime) -> io::Result<()> {
+    output(rt, 0)?;
+    output(rt, 1)?;
+    output(rt, 135)?;
+    output(rt, 136)?;
+    output(rt, 137)?;
+    output(rt, 272)?;
+    output(rt, 273)
 }
 
 // 64 bytes of a message of n bytes, absorbed whole and in pieces.
-fn input(n: usize)
+fn input(rt: HostRuntime, n: usize) -> io::Result<()>
     requires { n ≤ 273 }
 {
     let message = pattern();
     let mut out = [0u8; 64];
     let t = tape_of(&message[0..n]);
     let after = t.squeeze(&mut out);
-    case(b"input ", n, b", whole, 64 bytes");
-    lines::bytes_line(&out);
+    case(rt, b"input ", n, b", whole, 64 bytes")?;
+    lines::bytes_line(rt, &out)?;
     let u = tape_of_pieces(&message[0..n]);
     let behind = u.squeeze(&mut out);
-    case(b"input ", n, b", in pieces, 64 bytes");
-    lines::bytes_line(&out);
+    case(rt, b"input ", n, b", in pieces, 64 bytes")?;
+    lines::bytes_line(rt, &out)
 }
 
 // n bytes of the message of 137 bytes, squeezed whole and in turns.
-fn output(n: usize)
+fn output(rt: HostRuntime, n: usize) -> io::Result<()>
     requires { n ≤ 273 }
 {
     let mut out = [0u8; 273];
-    output_whole(&mut out[0..n]);
+    output_whole(rt, &mut out[0..n])?;
     let mut again = [0u8; 273];
-    output_in_turns(&mut again[0..n]);
+    output_in_turns(rt, &mut again[0..n])
 }
 
 // As many bytes as `out` holds, squeezed whole.
-fn output_whole(out: &mut [u8]) {
+fn output_whole(rt: HostRuntime, out: &mut [u8]) -> io::Result<()> {
     let message = pattern();
     let t = tape_of(&message[0..137]);
     let after = t.squeeze(out);
-    case(b"output ", out.len(), b", whole");
-    lines::bytes_line(out);
+    case(rt, b"output ", out.len(), b", whole")?;
+    lines::bytes_line(rt, out)
 }
 
 // As many bytes as `out` holds, squeezed in turns.
-fn output_in_turns(out: &mut [u8]) {
+fn output_in_turns(rt: HostRuntime, out: &mut [u8]) -> io::Result<()> {
     let message = pattern();
     let t = tape_of(&message[0..137]);
     squeeze_in_turns(t, out);
-    case(b"output ", out.len(), b", in turns");
-    lines::bytes_line(out);
+    case(rt, b"output ", out.len(), b", in turns")?;
+    lines::bytes_line(rt, out)
 }
 
 // A place far into a long output.
-fn far() {
+fn far(rt: HostRuntime) -> io::Result<()> {
     let message = pattern();
     let mut out = [0u8; 16448];
     let t = tape_of(&message[0..136]);
     let after = t.squeeze(&mut out);
-    io::write_all(
-        STDOUT_FILENO,
-        b"long output, bytes 16384 to 16448 of input 136",
-    );
-    lines::bytes_line(&out[16384..16448]);
+    rt.write_all(b"long output, bytes 16384 to 16448 of input 136")?;
+    lines::bytes_line(rt, &out[16384..16448])
 }
 
 // The message whose byte i is 7i + 3 modulo 256.
@@ -166,8 +163,8 @@ fn end(i: usize, n: usize, whole: usize) -> usize
 }
 
 // The name of a case.
-fn case(kind: &[u8], n: usize, rest: &[u8]) {
-    io::write_all(STDOUT_FILENO, kind);
-    io::print_decimal(STDOUT_FILENO, n as u64);
-    io::write_all(STDOUT_FILENO, rest);
+fn case(rt: HostRuntime, kind: &[u8], n: usize, rest: &[u8]) -> io::Result<()> {
+    rt.write_all(kind)?;
+    rt.print(n)?;
+    rt.write_all(rest)
 }

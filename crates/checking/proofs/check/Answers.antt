@@ -1,5 +1,4 @@
 -- `checking::check` is safe and ends: no line is longer than sixteen bytes. Assumes nothing.
-use borrow.Author.Rules.{rules}
 use mathlib.Core.Path.{◌≡◌, sym, ap, ◌∙◌, subst}
 use Prim.Native.Nat.{ℕ, ◌≤◌}
 use native.Mathlib.Omega.{arith}
@@ -10,14 +9,14 @@ use Rattle.report.proofs.Clips.{line_fits}
 use Rattle.checking.proofs.check.Goals as goal
 
 pub slice_bounds-line-end : goal.slice_bounds-line-end
-slice_bounds-line-end c =
+slice_bounds-line-end g c =
     let w = c.clip_line-count in
     let f : w.result ≤ 16 = subst (λ (n : ℕ). n ≤ 16) (sym w.ensures.0) (line_fits _) in
     let k : length w.new.line ≡ 16 = ap length w.ensures.1 ∙ length_over _ _ in
     omega arith
 
 pub slice_bounds-write_all-end : goal.slice_bounds-write_all-end
-slice_bounds-write_all-end c =
+slice_bounds-write_all-end g c =
     let w = c.clip_line-count in
     let f : w.result ≤ 16 = subst (λ (n : ℕ). n ≤ 16) (sym w.ensures.0) (line_fits _) in
     let k : length w.new.line ≡ 16 = ap length w.ensures.1 ∙ length_over _ _ in

@@ -1,12 +1,8 @@
 -- `lines::elements` meets its contract. The invariant: the bytes passed are below 16. The measure is what is left of the part.
 -- Assumes nothing.
-use mathlib.Core.Path.{◌≡◌, refl, ap}
+use mathlib.Core.Path.{◌≡◌}
 use Prim.Native.Nat.{ℕ, ◌-◌, ◌%◌, ◌≤◌, ◌<◌}
-use native.Mathlib.Omega.{arith}
-use lib.ListN.{length, get_or, length-set}
-use borrow.Author.Rules.{rules}
-use Rattle.lines.proofs.Rule.{rule_more, rest_more, rule_all}
-use Rattle.lines.proofs.Small.{small_more, small_all}
+use lib.ListN.{length, get_or}
 use Rattle.lines.proofs.elements.Given as goal
 
 abbrev pub invariant-loop-i : goal.invariant-loop-i

@@ -1,10 +1,8 @@
 -- `lines::progression` meets its contract: the bytes before i follow the rule, and x is the next. The measure is what is left of the part.
 -- Assumes nothing.
-use mathlib.Core.Path.{◌≡◌}
-use Prim.Native.Nat.{ℕ, ◌+◌, ◌-◌, ◌*◌, ◌%◌, ◌≤◌, ◌<◌}
+use Prim.Native.Nat.{ℕ, ◌+◌, ◌*◌, ◌%◌}
 use native.Mathlib.Omega.{arith}
-use lib.ListN.{length, get_or, length-set}
-use borrow.Author.Rules.{rules}
+use lib.ListN.{length-set}
 use Rattle.lines.proofs.Rule.{rule_more, rule_all, progression_first, progression_next}
 use Rattle.lines.proofs.progression.Goals as goal
 

@@ -2,10 +2,7 @@
 -- Assumes nothing.
 use mathlib.Core.Path.{◌≡◌}
 use Prim.Native.Nat.{ℕ, ◌+◌, ◌-◌, ◌*◌, ◌%◌, ◌≤◌, ◌<◌}
-use native.Mathlib.Omega.{arith}
-use lib.ListN.{length, get_or, length-set}
-use borrow.Author.Rules.{rules}
-use Rattle.lines.proofs.Rule.{rule_more, rule_all, progression_first, progression_next}
+use lib.ListN.{length, get_or}
 use Rattle.lines.proofs.progression.Given as goal
 
 abbrev pub invariant-loop-i : goal.invariant-loop-i

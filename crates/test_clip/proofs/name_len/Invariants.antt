@@ -1,5 +1,4 @@
 -- `test_clip::name_len` meets its contract: the length falls from the width of the column. Assumes nothing.
-use borrow.Author.Rules.{rules}
 use Prim.Native.Nat.{◌≤◌}
 use Rattle.test_clip.proofs.name_len.Given as goal
 

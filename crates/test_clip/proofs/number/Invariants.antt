@@ -1,5 +1,4 @@
 -- `test_clip::number` is safe and ends: the number stays below a million. Assumes nothing.
-use borrow.Author.Rules.{rules}
 use Prim.Native.Nat.{◌-◌, ◌≤◌, ◌<◌}
 use lib.ListN.{length}
 use Rattle.test_clip.proofs.number.Given as goal

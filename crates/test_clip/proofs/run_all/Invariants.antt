@@ -1,5 +1,4 @@
 -- `test_clip::run_all` is safe and ends: each case that is run lies inside the list. Assumes nothing.
-use borrow.Author.Rules.{rules}
 use Prim.Native.Nat.{◌-◌, ◌≤◌}
 use lib.ListN.{length}
 use Rattle.test_clip.proofs.run_all.Given as goal

@@ -1,7 +1,6 @@
 -- `test_desk::all` is safe and ends: i stays within the rows. The measure is what is left of the rows of all sets.
 -- Assumes nothing.
 use Prim.Native.Nat.{◌≤◌, ◌-◌}
-use borrow.Author.Rules.{rules}
 use Rattle.test_desk.proofs.all.Given as goal
 
 abbrev pub invariant-loop-i : goal.invariant-loop-i

@@ -1,7 +1,6 @@
 -- `test_parties::verifiers` is safe and ends: i counts the cases.
 -- Assumes nothing.
 use Prim.Native.Nat.{◌≤◌, ◌-◌}
-use borrow.Author.Rules.{rules}
 use Rattle.test_parties.proofs.verifiers.Given as goal
 
 abbrev pub invariant-loop-i : goal.invariant-loop-i

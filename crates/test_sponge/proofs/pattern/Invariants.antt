@@ -1,7 +1,6 @@
 -- `test_sponge::pattern` is safe and ends: i stays within the message. The measure is what is left of it.
 -- Assumes nothing.
 use Prim.Native.Nat.{◌≤◌, ◌-◌}
-use borrow.Author.Rules.{rules}
 use Rattle.test_sponge.proofs.pattern.Given as goal
 
 abbrev pub invariant-loop-i : goal.invariant-loop-i

@@ -1,7 +1,6 @@
 -- `test_sponge::tape_of_pieces` is safe and ends: pieces are not empty and end within the message, and their size is at most one more than what is done.
 -- Assumes nothing.
 use Prim.Native.Nat.{◌≤◌, ◌<◌, ◌+◌, ◌-◌}
-use borrow.Author.Rules.{rules}
 use lib.ListN.{length}
 use Rattle.test_sponge.proofs.tape_of_pieces.Given as goal
 

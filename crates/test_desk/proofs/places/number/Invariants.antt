@@ -1,7 +1,6 @@
 -- `test_desk::places::number` meets its contract: i stays within the column, and six digits are below a million. The measure is what is left of the column.
 -- Assumes nothing.
 use Prim.Native.Nat.{◌≤◌, ◌<◌, ◌-◌}
-use borrow.Author.Rules.{rules}
 use Rattle.test_desk.proofs.places.number.Given as goal
 
 abbrev pub invariant-loop-i : goal.invariant-loop-i

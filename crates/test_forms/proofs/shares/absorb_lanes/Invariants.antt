@@ -1,7 +1,6 @@
 -- `test_forms::shares::absorb_lanes` is safe and ends: q counts the sixteen lanes.
 -- Assumes nothing.
 use Prim.Native.Nat.{◌≤◌, ◌-◌}
-use borrow.Author.Rules.{rules}
 use Rattle.test_forms.proofs.shares.absorb_lanes.Given as goal
 
 abbrev pub invariant-loop-q : goal.invariant-loop-q

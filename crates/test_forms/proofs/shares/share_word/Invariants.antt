@@ -1,7 +1,6 @@
 -- `test_forms::shares::share_word` is safe and ends: q counts down from 16.
 -- Assumes nothing.
 use Prim.Native.Nat.{◌≤◌}
-use borrow.Author.Rules.{rules}
 use Rattle.test_forms.proofs.shares.share_word.Given as goal
 
 abbrev pub invariant-loop-q : goal.invariant-loop-q

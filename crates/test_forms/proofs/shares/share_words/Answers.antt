@@ -1,10 +1,7 @@
 -- `test_forms::shares::share_words` is safe and ends: i stays within the words. The measure is what is left of them.
 -- Assumes nothing.
-use mathlib.Core.Path.{◌≡◌}
-use Prim.Native.Nat.{◌≤◌, ◌-◌}
 use native.Mathlib.Omega.{arith}
-use lib.ListN.{length, length-set}
-use borrow.Author.Rules.{rules}
+use lib.ListN.{length-set}
 use Rattle.test_forms.proofs.shares.share_words.Goals as goal
 
 pub loop-i-preserved : goal.loop-i-preserved

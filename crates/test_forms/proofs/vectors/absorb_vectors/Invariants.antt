@@ -1,7 +1,6 @@
 -- `test_forms::vectors::absorb_vectors` is safe and ends: a vector takes at most 64 bytes, so the place is bounded. The measure is what is left of the vectors.
 -- Assumes nothing.
 use Prim.Native.Nat.{◌≤◌, ◌+◌, ◌-◌, ◌*◌}
-use borrow.Author.Rules.{rules}
 use Rattle.test_forms.proofs.vectors.absorb_vectors.Given as goal
 
 abbrev pub invariant-loop-k : goal.invariant-loop-k

@@ -4,7 +4,6 @@ use Prim.Native.Nat.{◌*◌}
 use native.Mathlib.Omega.{arith}
 use Rattle.sets.specs.Sets.{S}
 use Rattle.lines.proofs.Sizes.{seeds}
-use borrow.Author.Rules.{rules}
 use Rattle.test_parties.proofs.first.repetition.Goals as goal
 
 pub repetition_first-requires : goal.repetition_first-requires

@@ -2,7 +2,6 @@
 -- Assumes nothing.
 use native.Mathlib.Omega.{arith}
 use Rattle.lines.proofs.Sizes.{seeds}
-use borrow.Author.Rules.{rules}
 use Rattle.test_parties.proofs.inputs.open.Goals as goal
 
 pub path-requires : goal.path-requires

@@ -3,7 +3,6 @@
 use Prim.Native.Nat.{◌^◌}
 use native.Mathlib.Omega.{arith}
 use Rattle.lines.proofs.Sizes.{seeds}
-use borrow.Author.Rules.{rules}
 use Rattle.test_parties.proofs.inputs.root_leaves.Goals as goal
 
 pub leaves-requires : goal.leaves-requires

@@ -1,9 +1,10 @@
 // What a row of the table says for a set: whether the set has the case, the bits that are changed for it, and the numbers that are lent. Names and numbers are printed as they are read.
-ghost use Rattle.std.specs.Prelude.{◌≤◌, ◌<◌};
+ghost use Rattle.std.specs.Prelude.{◌≤◌, ◌<◌, IfOk};
 
 use crate::places;
 use crate::places::digit;
 use crate::table::ROW;
+use std::io;
 
 // Where the parts of a row lie.
 const CONDITION: usize = 2;
@@ -26,13 +27,13 @@ const LONGEST: usize = 32768;
 const TOO_LONG: usize = 32769;
 
 // Prints the name of a case and the bits that are changed for it, and says whether the set has it.
-pub fn named(set: usize, row: &[u8; ROW]) -> bool {
+pub fn named(rt: HostRuntime, set: usize, row: &[u8; ROW]) -> io::Result<bool> {
     if !has(set, row[CONDITION]) {
-        return false;
+        return Ok(false);
     }
-    name(set, row);
-    damage(set, row);
-    true
+    name(rt, set, row)?;
+    damage(rt, set, row)?;
+    Ok(true)
 }
 
 // Whether a set has the cases with this condition: n is odd for sets 3 and 4, and m for the others.
@@ -52,24 +53,24 @@ fn n_is_odd(set: usize) -> bool {
 }
 
 // The set and the name of the case.
-fn name(set: usize, row: &[u8; ROW]) {
+fn name(rt: HostRuntime, set: usize, row: &[u8; ROW]) -> io::Result<()> {
     let text = &row[..];
-    lines::words(b"set ");
-    lines::number(set);
-    lines::words(b", ");
-    lines::words(&text[NAME..NAME_END]);
+    lines::words(rt, b"set ")?;
+    lines::number(rt, set)?;
+    lines::words(rt, b", ")?;
+    lines::words(rt, &text[NAME..NAME_END])
 }
 
 // The bits that are changed, where there are some.
-fn damage(set: usize, row: &[u8; ROW]) {
+fn damage(rt: HostRuntime, set: usize, row: &[u8; ROW]) -> io::Result<()> {
     if row[PART] == b'.' {
-        return;
+        return Ok(());
     }
-    lines::words(b" bits ");
-    lines::number(memory::wide(bits(row[BITS])));
-    lines::words(b" of byte ");
-    lines::number(places::byte(set, row[PLACE]));
-    lines::words(b",");
+    lines::words(rt, b" bits ")?;
+    lines::number(rt, memory::wide(bits(row[BITS])))?;
+    lines::words(rt, b" of byte ")?;
+    lines::number(rt, places::byte(set, row[PLACE]))?;
+    lines::words(rt, b",")
 }
 
 // The bits that a mark stands for: the lowest, the highest, the upper four.
@@ -106,25 +107,32 @@ fn flip(bytes: &mut [u8], at: usize, bits: u8) {
 }
 
 // The number of the set that is lent.
-pub fn number(set: usize, row: &[u8; ROW]) -> usize {
+pub fn number(rt: HostRuntime, set: usize, row: &[u8; ROW]) -> io::Result<usize> {
     let n = marked(set, 0, row[LENT]);
-    lines::words(b" lent ");
-    lines::number(n);
-    n
+    lines::words(rt, b" lent ")?;
+    lines::number(rt, n)?;
+    Ok(n)
 }
 
 // Where the i-th part that is lent ends, from where it begins, and at most where the next begins.
-pub fn lent(set: usize, row: &[u8; ROW], i: usize, from: usize, next: usize) -> usize
+pub fn lent(
+    rt: HostRuntime,
+    set: usize,
+    row: &[u8; ROW],
+    i: usize,
+    from: usize,
+    next: usize,
+) -> io::Result<usize>
     requires { (i < 9) × (from ≤ next) }
-    ensures { (from ≤ result) × (result ≤ next) }
+    ensures { IfOk result (λ n. (from ≤ n) × (n ≤ next)) }
 {
     let n = marked(set, i, row[LENT + i]);
-    lines::words(b" ");
-    lines::number(n);
+    lines::words(rt, b" ")?;
+    lines::number(rt, n)?;
     if next - from < n {
-        return next;
+        return Ok(next);
     }
-    from + n
+    Ok(from + n)
 }
 
 // The number that the i-th mark stands for.
