@@ -11,7 +11,7 @@ import subprocess
 import sys
 import tempfile
 
-KIT = "/opt/rattle"
+KIT = os.path.dirname(os.path.dirname(os.path.realpath(shutil.which("rt"))))
 UPGRADE = "port/notes/2026-11-16-one-script-upgrades-the-surface/upgrade.py"
 
 with tempfile.TemporaryDirectory() as top:
