@@ -13,14 +13,14 @@ ghost use Rattle.sponge.specs.Steps.{sponge, tape, fresh, absorbed, finished, gi
 use part::RATE;
 
 // What was absorbed: the state, and the place of the next byte in the block.
-#[derive(Drop)]
+#[derive(Clone, Copy)]
 pub struct Sponge {
     pub lanes: [u64; 25],
     pub at: usize,
 }
 
 // What is to be given: the state, and the place of the next byte in the block.
-#[derive(Drop)]
+#[derive(Clone, Copy)]
 pub struct Tape {
     pub lanes: [u64; 25],
     pub at: usize,

@@ -25,7 +25,7 @@ use sets::Params;
 use sponge::Sponge;
 
 // The two hashes, as far as they have absorbed.
-#[derive(Drop)]
+#[derive(Clone, Copy)]
 pub struct Both {
     pub first: Sponge,
     pub second: Sponge,
