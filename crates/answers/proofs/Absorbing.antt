@@ -89,13 +89,16 @@ pub absorbing_group : (m : ℕ) (l : List (List ℕ)) → Vectors m l → (n : �
     → Absorbing s r' (pack (flatten (take (16 * (n + 1)) l))) (n + 1)
 absorbing_group m l sized n room s r r' h e = subst (λ (x : List ℕ). Absorbing s r' x (n + 1)) (group_more m l sized n room) (absorbing_more s r r' _ _ n h e)
 
-pub absorbing_two : (m : ℕ) (l : List (List ℕ)) → Vectors m l → (n : ℕ) → 16 * n + 32 ≤ length l → (s r between r' : Sponge)
+-- for a number of groups that is equal
+pub absorbing_at : {n k : ℕ} (l : List (List ℕ)) (s r : Sponge) → n ≡ k → Absorbing s r (pack (flatten (take (16 * n) l))) n → Absorbing s r (pack (flatten (take (16 * k) l))) k
+absorbing_at l s r e h = subst (λ (k : ℕ). Absorbing s r (pack (flatten (take (16 * k) l))) k) e h
+
+pub absorbing_two : (m : ℕ) (l : List (List ℕ)) → Vectors m l → (n k : ℕ) → n + 2 ≡ k → 16 * n + 32 ≤ length l → (s r between r' : Sponge)
     → Absorbing s r (pack (flatten (take (16 * n) l))) n → between ≡ absorbed r (pack (flatten (take 16 (drop (16 * n) l))))
-    → r' ≡ absorbed between (pack (flatten (take 16 (drop (16 * (n + 1)) l)))) → Absorbing s r' (pack (flatten (take (16 * (n + 2)) l))) (n + 2)
-absorbing_two m l sized n room s r between r' h e e' =
-    let i : n + 1 + 1 ≡ n + 2 = omega arith in
-    subst (λ (k : ℕ). Absorbing s r' (pack (flatten (take (16 * k) l))) k) i
-    (absorbing_group m l sized (n + 1) (omega arith) s between r' (absorbing_group m l sized n (omega arith) s r between h e) e')
+    → r' ≡ absorbed between (pack (flatten (take 16 (drop (16 * (n + 1)) l)))) → Absorbing s r' (pack (flatten (take (16 * k) l))) k
+absorbing_two m l sized n k e room s r between r' h e₁ e₂ =
+    let i : n + 1 + 1 ≡ k = omega arith in
+    absorbing_at l s r' i (absorbing_group m l sized (n + 1) (omega arith) s between r' (absorbing_group m l sized n (omega arith) s r between h e₁) e₂)
 
 pub absorbing-end : (l : List (List ℕ)) (n : ℕ) (s r : Sponge) → length l ≡ 16 * n → 0 < n → Absorbing s r (pack (flatten (take (16 * n) l))) n → r ≡ absorbed s (pack (flatten l))
 absorbing-end l n s r e h a = absorbing_all s r _ n h a ∙ ap (λ (x : List (List ℕ)). absorbed s (pack (flatten x))) (take_all (16 * n) l (omega arith))

@@ -90,13 +90,13 @@ passed_more n m at αs ys ws s r sa₀ sy₀ sw₀ sa sy sw old new same p t = r
 pub passed_at : (n n' m : ℕ) (αs ys ws : List (List ℕ)) (sa sy sw all : List ℕ) → n ≡ n' → Passed n m αs ys ws sa sy sw all → Passed n' m αs ys ws sa sy sw all
 passed_at n n' m αs ys ws sa sy sw all e p = subst (λ (k : ℕ). Passed k m αs ys ws sa sy sw all) e p
 
-pub passed_two : (n m at : ℕ) (αs ys ws : List (List ℕ)) (s r : Sponge) (sa₀ sy₀ sw₀ sa sy sw old new : List ℕ)
+pub passed_two : (n k m at : ℕ) (αs ys ws : List (List ℕ)) (s r : Sponge) (sa₀ sy₀ sw₀ sa sy sw old new : List ℕ) → n + 2 ≡ k
     → take (at + n * (16 * m)) new ≡ take (at + n * (16 * m)) old → Passed n m αs ys ws sa₀ sy₀ sw₀ (drop at old)
     → TwoTurns n m αs ys ws s sa₀ sy₀ sw₀ sa sy sw (take (16 * m) (drop (at + n * (16 * m)) new)) (take (16 * m) (drop (at + (n + 1) * (16 * m)) new)) r
-    → Passed (n + 2) m αs ys ws sa sy sw (drop at new)
-passed_two n m at αs ys ws s r sa₀ sy₀ sw₀ sa sy sw old new same p t =
-    let e : n + 1 + 1 ≡ n + 2 = omega arith in
-    passed_at (n + 1 + 1) (n + 2) m αs ys ws sa sy sw (drop at new) e
+    → Passed k m αs ys ws sa sy sw (drop at new)
+passed_two n k m at αs ys ws s r sa₀ sy₀ sw₀ sa sy sw old new e same p t =
+    let i : n + 1 + 1 ≡ k = omega arith in
+    passed_at (n + 1 + 1) k m αs ys ws sa sy sw (drop at new) i
     (passed_more (n + 1) m at αs ys ws t.between r t.sa₁ t.sy₁ t.sw₁ sa sy sw new new refl
     (passed_more n m at αs ys ws s t.between sa₀ sy₀ sw₀ t.sa₁ t.sy₁ t.sw₁ old new same p t.first) t.second)
 

@@ -1,5 +1,5 @@
 -- One group in each pass: packed and absorbed, added to the sums, kept as bytes and read back. Assumes nothing.
-use mathlib.Core.List.{List, ◌++◌, flatten}
+use mathlib.Core.List.{List, ◌++◌}
 use mathlib.Core.Path.{◌≡◌, sym, ap, ap₂, subst, ◌∙◌}
 use Prim.Native.Nat.{ℕ, zero, suc, ◌+◌, ◌-◌, ◌*◌, ◌≤◌, ◌<◌}
 use native.Mathlib.Nat.{sub-zero, zero-add}
@@ -7,23 +7,20 @@ use native.Mathlib.Decide.{dec_lt}
 use native.Mathlib.Omega.{arith}
 use lib.Bits.{bit_xor, xor_lt}
 use lib.Dec.{lit<}
-use lib.ListN.{length, get_or, take, drop, replicate, length-replicate, length-append, length-take, length-drop, get_or-eq_default}
+use lib.ListN.{length, get_or, take, drop, replicate, length-replicate, length-take, length-drop, get_or-eq_default}
 use lib.Seq.{take_at, length-take-le, get_or-take}
 use Rattle.memory.specs.Lists.{put}
 use Rattle.memory.proofs.Parts.{length-put, lent-put}
 use Rattle.memory.proofs.Xors.{get_or_zeros}
 use Rattle.field.specs.Field.{mul}
-use Rattle.field.specs.Packing.{Elements, Bytes, nib, pack}
+use Rattle.field.specs.Packing.{Elements, nib}
 use Rattle.field.specs.Vectors.{◌!◌}
 use Rattle.field.proofs.Laws.{mul-lt}
 use Rattle.field.proofs.Packing.{nib-take, nib-drop}
 use Rattle.lanes.specs.Lanes.{lane, WordAt}
-use Rattle.turning.specs.Parties.{PartiesPacked}
 use Rattle.lanes.proofs.Laws.{lane-lt, lane_xor}
 use Rattle.lanes.proofs.Bytes.{nib-put-before, nib-put_in}
-use Rattle.turning.proofs.Packed.{packed_front}
 use Rattle.sponge.specs.declared.Sponge.{Sponge}
-use Rattle.sponge.specs.Steps.{absorbed}
 use Rattle.marks.specs.Marks.{Mark, EachWord, MarkedWord, MultipliedWord, Marked, Multiplied, HoldsWords, sum_of, lane_sum}
 use Rattle.marks.proofs.Sums.{sum_same, sum-xor, sum-mul}
 use Rattle.forms.specs.Circuit.{Circuit}
@@ -57,20 +54,6 @@ module _ (n m : ℕ) (x : List ℕ) (h : m ≤ n) (e : length x ≡ length (take
 
   pub lent-sized : length (take (m - 0) (drop 0 (take 0 (replicate n 0) ++ (x ++ drop (m - 0) (drop 0 (replicate n 0)))))) ≡ m
   lent-sized = ap length lent_same ∙ e ∙ zeros_sized n m h
-
-  pub lent_fits : m ≤ length (take 0 (replicate n 0) ++ (x ++ drop (m - 0) (drop 0 (replicate n 0))))
-  lent_fits =
-      let a = length-append x (drop (m - 0) (drop 0 (replicate {A = ℕ} n 0))) in
-      let b = e in
-      let c = zeros_sized n m h in
-      omega arith
-
--- ---- packed and absorbed
-
-pub absorbed_packed : (s r : Sponge) (words before after : List ℕ) (n : ℕ) → n ≡ 8 * length words → PartiesPacked words before after → Bytes after → 8 * length words ≤ length after
-    → r ≡ absorbed s (take (n - 0) (drop 0 after)) → (vs : List (List ℕ)) → Packs vs words → r ≡ absorbed s (pack (flatten vs))
-absorbed_packed s r words before after n en p bytes room er vs packs =
-    er ∙ ap (absorbed s) (ap (λ (k : ℕ). take k after) (sub-zero n ∙ en) ∙ packed_front words before after p vs packs.count packs.sized packs.held bytes room)
 
 -- ---- sums and bytes
 

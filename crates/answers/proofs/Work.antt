@@ -8,7 +8,7 @@ use lib.ListN.{length, take, drop, length-drop}
 use lib.Seq.{take_all, take-take, length-take-le}
 use Rattle.memory.specs.Lists.{put}
 use Rattle.memory.proofs.Lists.{room}
-use Rattle.memory.proofs.Parts.{length-put, lent-put, mid_put, take_put}
+use Rattle.memory.proofs.Parts.{lent-put, mid_put, take_put}
 use Rattle.memory.proofs.Sections.{drop-take}
 use Rattle.memory.proofs.Xors.{length_part, length-sized}
 use Rattle.sponge.specs.declared.Sponge.{Sponge}
@@ -113,9 +113,6 @@ module _ (rep : Rep) (work : List ℕ) (a e : ℕ) (ea : a ≡ room_at rep) (ee 
   pub room-lent : take (e - a) (drop a work) ≡ drop (room_at rep) work
   room-lent = take_all (e - a) (drop a work) (simp length-drop (omega arith)) ∙ ap (λ (k : ℕ). drop k work) ea
 
-  pub room-sized : length work ≡ room_at rep + rep.groups * (16 * rep.m) → length (take (e - a) (drop a work)) ≡ rep.groups * (16 * rep.m)
-  room-sized h = ap length room-lent ∙ length-drop (room_at rep) work ∙ (let i : length work - room_at rep ≡ rep.groups * (16 * rep.m) = omega arith in i)
-
   pub room-held : (ys ws : List (List ℕ)) → ((g : ℕ) → g < rep.groups → HoldsGroup g rep.m ys ws (take (16 * rep.m) (drop (g * (16 * rep.m)) (drop (room_at rep) work))))
       → (g : ℕ) → g < rep.groups → HoldsGroup g rep.m ys ws (take (16 * rep.m) (drop (g * (16 * rep.m)) (take (e - a) (drop a work))))
   room-held ys ws held g h = subst (λ (l : List ℕ). HoldsGroup g rep.m ys ws (take (16 * rep.m) (drop (g * (16 * rep.m)) l))) (sym room-lent) (held g h)
@@ -136,6 +133,3 @@ module _ (work : List ℕ) (a size : ℕ) (fits : a + size ≤ length work) (par
 
   pub front_back : take b (take a work ++ (part ++ drop (a + size - a) (drop a work))) ≡ take b work
   front_back = ap (take b) written ∙ subst (λ (k : ℕ). take k (put work a part) ≡ take k work) eb (take_put work a part part_fits)
-
-  pub work-kept : length (take a work ++ (part ++ drop (a + size - a) (drop a work))) ≡ length work
-  work-kept = ap length written ∙ length-put work a part part_fits

@@ -2,64 +2,66 @@
 // No secret picks a branch or an address; the number of the group is public.
 ghost use Rattle.std.specs.Prelude.{◌≡◌, ℕ, ◌+◌, ◌*◌, ◌≤◌, ◌<◌, length, take, drop};
 ghost use mathlib.Core.List.{List, flatten};
-ghost use Rattle.field.specs.Packing.{Elements, pack};
+ghost use Rattle.field.specs.Packing.{pack};
 ghost use Rattle.sponge.specs.Steps.{absorbed};
 ghost use Rattle.forms.specs.Room.{circuit_in};
 ghost use Rattle.group.specs.Shares.{Sized, values_length, share_at, HoldsAnswers};
 ghost use Rattle.answers.specs.Passes.{circuit_of, leaves_of, room_at, alphas_of, second_forms_of, rests_of, Packs, InLanes, Turn, TwoTurns, Passed, Zeros};
 
 use crate::packed::absorb_group;
-use group::Rep;
+use group::{Inputs, Rep};
 use sets::MOST_EQUATIONS;
 use sponge::Sponge;
 
 // Every α absorbed; the sums over the parties, and y and z·ε + c of each group, are kept.
+// Stays: sa, sy and sw, and x, y and z below, are slices and no structs of three: `linear` and `marks` write them one by one, so a struct of three `&mut` would be built and taken apart at each call, and is no plainer.
 pub fn first_pass(
     sponge: Sponge,
-    rep: Rep,
-    salt: &[u8],
-    values: &[u8],
+    of: Inputs<'_>,
     sa: &mut [u64],
     sy: &mut [u64],
     sw: &mut [u64],
     work: &mut [u8],
 ) -> Sponge
-    requires { (Sized rep) × (0 < rep.groups) × (length salt.now ≤ 64) × (length values.now ≡ values_length rep) × (Elements values.now) × (length sa.old ≡ rep.m) × (length sy.old ≡ rep.m) × (length sw.old ≡ rep.m) × (Zeros sa.old) × (Zeros sy.old) × (Zeros sw.old) × (length work.old ≡ room_at rep + rep.groups * (16 * rep.m)) }
-    ensures absorbs { result ≡ absorbed sponge (pack (flatten (alphas_of rep (circuit_of rep work.old) salt.now (leaves_of rep work.old) values.now))) }
-    ensures keeps { Passed rep.groups rep.m (alphas_of rep (circuit_of rep work.old) salt.now (leaves_of rep work.old) values.now) (second_forms_of rep (circuit_of rep work.old) salt.now (leaves_of rep work.old) values.now) (rests_of rep (circuit_of rep work.old) salt.now (leaves_of rep work.old) values.now) sa.new sy.new sw.new (drop (room_at rep) work.new) }
-    ensures kept { take (room_at rep) work.new ≡ take (room_at rep) work.old }
+    requires { (0 < of.rep.groups) × (length sa.old ≡ of.rep.m) × (length sy.old ≡ of.rep.m) × (length sw.old ≡ of.rep.m) × (Zeros sa.old) × (Zeros sy.old) × (Zeros sw.old) × (length work.old ≡ room_at of.rep + of.rep.groups * (16 * of.rep.m)) }
+    ensures absorbs { let rep = of.entry.rep in let circuit = circuit_of rep work.old in let leaves = leaves_of rep work.old in let salt = of.entry.salt.now in let values = of.entry.values.now in result ≡ absorbed sponge (pack (flatten (alphas_of rep circuit salt leaves values))) }
+    ensures keeps { let rep = of.entry.rep in let circuit = circuit_of rep work.old in let leaves = leaves_of rep work.old in let salt = of.entry.salt.now in let values = of.entry.values.now in Passed rep.groups rep.m (alphas_of rep circuit salt leaves values) (second_forms_of rep circuit salt leaves values) (rests_of rep circuit salt leaves values) sa.new sy.new sw.new (drop (room_at rep) work.new) }
+    ensures kept { let rep = of.entry.rep in take (room_at rep) work.new ≡ take (room_at rep) work.old }
 {
-    let groups = rep.groups;
+    let pairs = of.rep.groups / 2;
     let mut s = sponge;
-    let mut g = 0;
-    while g + 1 < groups {
-        let t = turn_two(s, rep, g, salt, values, sa, sy, sw, work);
-        s = t;
-        g += 2;
+    for pair in 0..pairs {
+        s = turn_two(s, of, 2 * pair, sa, sy, sw, work);
     }
-    if g < groups {
-        return turn(s, rep, g, salt, values, sa, sy, sw, work);
+    if 2 * pairs < of.rep.groups {
+        return turn(s, of, 2 * pairs, sa, sy, sw, work);
     }
     s
+}
+
+// Where the room begins, behind the circuit and the leaves.
+pub fn room_at(rep: Rep) -> usize
+    requires { Sized rep }
+    ensures { result ≡ room_at rep }
+{
+    forms::circuit_len(rep.n, rep.m) + 16 * rep.groups * rep.s
 }
 
 // Two groups, one after the other.
 fn turn_two(
     sponge: Sponge,
-    rep: Rep,
+    of: Inputs<'_>,
     g: usize,
-    salt: &[u8],
-    values: &[u8],
     sa: &mut [u64],
     sy: &mut [u64],
     sw: &mut [u64],
     work: &mut [u8],
 ) -> Sponge
-    requires { (Sized rep) × (g + 1 < rep.groups) × (length salt.now ≤ 64) × (length values.now ≡ values_length rep) × (Elements values.now) × (length sa.old ≡ rep.m) × (length sy.old ≡ rep.m) × (length sw.old ≡ rep.m) × (length work.old ≡ room_at rep + rep.groups * (16 * rep.m)) }
-    ensures turned { TwoTurns g rep.m (alphas_of rep (circuit_of rep work.old) salt.now (leaves_of rep work.old) values.now) (second_forms_of rep (circuit_of rep work.old) salt.now (leaves_of rep work.old) values.now) (rests_of rep (circuit_of rep work.old) salt.now (leaves_of rep work.old) values.now) sponge sa.old sy.old sw.old sa.new sy.new sw.new (take (16 * rep.m) (drop (room_at rep + g * (16 * rep.m)) work.new)) (take (16 * rep.m) (drop (room_at rep + (g + 1) * (16 * rep.m)) work.new)) result }
-    ensures kept { take (room_at rep + g * (16 * rep.m)) work.new ≡ take (room_at rep + g * (16 * rep.m)) work.old }
+    requires { (g + 1 < of.rep.groups) × (length sa.old ≡ of.rep.m) × (length sy.old ≡ of.rep.m) × (length sw.old ≡ of.rep.m) × (length work.old ≡ room_at of.rep + of.rep.groups * (16 * of.rep.m)) }
+    ensures turned { let rep = of.entry.rep in let circuit = circuit_of rep work.old in let leaves = leaves_of rep work.old in let salt = of.entry.salt.now in let values = of.entry.values.now in TwoTurns g rep.m (alphas_of rep circuit salt leaves values) (second_forms_of rep circuit salt leaves values) (rests_of rep circuit salt leaves values) sponge sa.old sy.old sw.old sa.new sy.new sw.new (take (16 * rep.m) (drop (room_at rep + g * (16 * rep.m)) work.new)) (take (16 * rep.m) (drop (room_at rep + (g + 1) * (16 * rep.m)) work.new)) result }
+    ensures kept { let rep = of.entry.rep in take (room_at rep + g * (16 * rep.m)) work.new ≡ take (room_at rep + g * (16 * rep.m)) work.old }
 {
-    let m = rep.m;
+    let m = of.rep.m;
     let mut x = [0u64; MOST_EQUATIONS];
     let mut y = [0u64; MOST_EQUATIONS];
     let mut z = [0u64; MOST_EQUATIONS];
@@ -67,10 +69,8 @@ fn turn_two(
     let mut y2 = [0u64; MOST_EQUATIONS];
     let mut z2 = [0u64; MOST_EQUATIONS];
     groups_of(
-        rep,
+        of,
         g,
-        salt,
-        values,
         work,
         &mut x[0..m],
         &mut y[0..m],
@@ -81,7 +81,7 @@ fn turn_two(
     );
     let first = taken_at(
         sponge,
-        rep,
+        of.rep,
         g,
         &x[0..m],
         &y[0..m],
@@ -93,7 +93,7 @@ fn turn_two(
     );
     taken_at(
         first,
-        rep,
+        of.rep,
         g + 1,
         &x2[0..m],
         &y2[0..m],
@@ -107,10 +107,8 @@ fn turn_two(
 
 // α, y and z·ε + c of the parties of group g and of the next, by the circuit and the leaves in the work.
 fn groups_of(
-    rep: Rep,
+    of: Inputs<'_>,
     g: usize,
-    salt: &[u8],
-    values: &[u8],
     work: &[u8],
     x: &mut [u64],
     y: &mut [u64],
@@ -119,22 +117,19 @@ fn groups_of(
     y2: &mut [u64],
     z2: &mut [u64],
 )
-    requires { (Sized rep) × (g + 1 < rep.groups) × (length salt.now ≤ 64) × (length values.now ≡ values_length rep) × (Elements values.now) × (room_at rep ≤ length work.now) × (length x.old ≡ rep.m) × (length y.old ≡ rep.m) × (length z.old ≡ rep.m) × (length x2.old ≡ rep.m) × (length y2.old ≡ rep.m) × (length z2.old ≡ rep.m) }
-    ensures first { HoldsAnswers rep g (circuit_in rep.n rep.m (circuit_of rep work.now)) values.now (λ q. share_at rep salt.now (leaves_of rep work.now) values.now (16 * g + q)) x.new y.new z.new }
-    ensures second { HoldsAnswers rep (g + 1) (circuit_in rep.n rep.m (circuit_of rep work.now)) values.now (λ q. share_at rep salt.now (leaves_of rep work.now) values.now (16 * (g + 1) + q)) x2.new y2.new z2.new }
+    requires { (g + 1 < of.rep.groups) × (room_at of.rep ≤ length work.now) × (length x.old ≡ of.rep.m) × (length y.old ≡ of.rep.m) × (length z.old ≡ of.rep.m) × (length x2.old ≡ of.rep.m) × (length y2.old ≡ of.rep.m) × (length z2.old ≡ of.rep.m) }
+    ensures first { let rep = of.entry.rep in let circuit = circuit_of rep work.now in let leaves = leaves_of rep work.now in let salt = of.entry.salt.now in let values = of.entry.values.now in HoldsAnswers rep g (circuit_in rep.n rep.m circuit) values (λ q. share_at rep salt leaves values (16 * g + q)) x.new y.new z.new }
+    ensures second { let rep = of.entry.rep in let circuit = circuit_of rep work.now in let leaves = leaves_of rep work.now in let salt = of.entry.salt.now in let values = of.entry.values.now in HoldsAnswers rep (g + 1) (circuit_in rep.n rep.m circuit) values (λ q. share_at rep salt leaves values (16 * (g + 1) + q)) x2.new y2.new z2.new }
 {
-    let c = forms::circuit_len(rep.n, rep.m);
-    let l = room_at(rep);
+    let c = forms::circuit_len(of.rep.n, of.rep.m);
+    let l = room_at(of.rep);
     group::two_groups(
-        rep,
+        of,
         g,
         &work[c..l],
-        values,
-        rep,
+        of,
         g + 1,
         &work[c..l],
-        values,
-        salt,
         &work[0..c],
         x,
         y,
@@ -148,36 +143,25 @@ fn groups_of(
 // One group: its α absorbed, its vectors added to the sums, and y and z·ε + c kept.
 fn turn(
     sponge: Sponge,
-    rep: Rep,
+    of: Inputs<'_>,
     g: usize,
-    salt: &[u8],
-    values: &[u8],
     sa: &mut [u64],
     sy: &mut [u64],
     sw: &mut [u64],
     work: &mut [u8],
 ) -> Sponge
-    requires { (Sized rep) × (g < rep.groups) × (length salt.now ≤ 64) × (length values.now ≡ values_length rep) × (Elements values.now) × (length sa.old ≡ rep.m) × (length sy.old ≡ rep.m) × (length sw.old ≡ rep.m) × (length work.old ≡ room_at rep + rep.groups * (16 * rep.m)) }
-    ensures turned { Turn g rep.m (alphas_of rep (circuit_of rep work.old) salt.now (leaves_of rep work.old) values.now) (second_forms_of rep (circuit_of rep work.old) salt.now (leaves_of rep work.old) values.now) (rests_of rep (circuit_of rep work.old) salt.now (leaves_of rep work.old) values.now) sponge sa.old sy.old sw.old sa.new sy.new sw.new (take (16 * rep.m) (drop (room_at rep + g * (16 * rep.m)) work.new)) result }
-    ensures kept { take (room_at rep + g * (16 * rep.m)) work.new ≡ take (room_at rep + g * (16 * rep.m)) work.old }
+    requires { (g < of.rep.groups) × (length sa.old ≡ of.rep.m) × (length sy.old ≡ of.rep.m) × (length sw.old ≡ of.rep.m) × (length work.old ≡ room_at of.rep + of.rep.groups * (16 * of.rep.m)) }
+    ensures turned { let rep = of.entry.rep in let circuit = circuit_of rep work.old in let leaves = leaves_of rep work.old in let salt = of.entry.salt.now in let values = of.entry.values.now in Turn g rep.m (alphas_of rep circuit salt leaves values) (second_forms_of rep circuit salt leaves values) (rests_of rep circuit salt leaves values) sponge sa.old sy.old sw.old sa.new sy.new sw.new (take (16 * rep.m) (drop (room_at rep + g * (16 * rep.m)) work.new)) result }
+    ensures kept { let rep = of.entry.rep in take (room_at rep + g * (16 * rep.m)) work.new ≡ take (room_at rep + g * (16 * rep.m)) work.old }
 {
-    let m = rep.m;
+    let m = of.rep.m;
     let mut x = [0u64; MOST_EQUATIONS];
     let mut y = [0u64; MOST_EQUATIONS];
     let mut z = [0u64; MOST_EQUATIONS];
-    group_of(
-        rep,
-        g,
-        salt,
-        values,
-        work,
-        &mut x[0..m],
-        &mut y[0..m],
-        &mut z[0..m],
-    );
+    group_of(of, g, work, &mut x[0..m], &mut y[0..m], &mut z[0..m]);
     taken_at(
         sponge,
-        rep,
+        of.rep,
         g,
         &x[0..m],
         &y[0..m],
@@ -190,22 +174,13 @@ fn turn(
 }
 
 // α, y and z·ε + c of the sixteen parties of group g, by the circuit and the leaves in the work.
-fn group_of(
-    rep: Rep,
-    g: usize,
-    salt: &[u8],
-    values: &[u8],
-    work: &[u8],
-    x: &mut [u64],
-    y: &mut [u64],
-    z: &mut [u64],
-)
-    requires { (Sized rep) × (g < rep.groups) × (length salt.now ≤ 64) × (length values.now ≡ values_length rep) × (Elements values.now) × (room_at rep ≤ length work.now) × (length x.old ≡ rep.m) × (length y.old ≡ rep.m) × (length z.old ≡ rep.m) }
-    ensures { HoldsAnswers rep g (circuit_in rep.n rep.m (circuit_of rep work.now)) values.now (λ q. share_at rep salt.now (leaves_of rep work.now) values.now (16 * g + q)) x.new y.new z.new }
+fn group_of(of: Inputs<'_>, g: usize, work: &[u8], x: &mut [u64], y: &mut [u64], z: &mut [u64])
+    requires { (g < of.rep.groups) × (room_at of.rep ≤ length work.now) × (length x.old ≡ of.rep.m) × (length y.old ≡ of.rep.m) × (length z.old ≡ of.rep.m) }
+    ensures { let rep = of.entry.rep in let circuit = circuit_of rep work.now in let leaves = leaves_of rep work.now in let salt = of.entry.salt.now in let values = of.entry.values.now in HoldsAnswers rep g (circuit_in rep.n rep.m circuit) values (λ q. share_at rep salt leaves values (16 * g + q)) x.new y.new z.new }
 {
-    let c = forms::circuit_len(rep.n, rep.m);
-    let l = room_at(rep);
-    group::group(rep, g, salt, &work[c..l], &work[0..c], values, x, y, z);
+    let c = forms::circuit_len(of.rep.n, of.rep.m);
+    let l = room_at(of.rep);
+    group::group(of, g, &work[c..l], &work[0..c], x, y, z);
 }
 
 // The vectors of group g taken, and kept at its place in the work.
@@ -253,12 +228,4 @@ fn taken(
     marks::store_words(y, &mut part[0..half]);
     marks::store_words(z, &mut part[half..end]);
     absorb_group(sponge, x)
-}
-
-// Where the room begins, behind the circuit and the leaves.
-pub fn room_at(rep: Rep) -> usize
-    requires { Sized rep }
-    ensures { result ≡ room_at rep }
-{
-    forms::circuit_len(rep.n, rep.m) + 16 * rep.groups * rep.s
 }

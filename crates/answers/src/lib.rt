@@ -6,6 +6,7 @@
 mod first;
 mod packed;
 mod second;
+mod totals;
 
 ghost use Rattle.std.specs.Prelude.{◌≡◌, List, ℕ, ◌+◌, ◌*◌, ◌≤◌, ◌<◌, length, take, drop};
 ghost use Rattle.field.specs.Packing.{Elements};
@@ -17,7 +18,7 @@ ghost use Rattle.group.specs.Shares.{Sized, values_length, share_at, HoldsAnswer
 ghost use Rattle.answers.specs.Answers.{shares_of, answered};
 ghost use Rattle.answers.specs.Passes.{circuit_of, leaves_of, room_at, HoldsRoom};
 
-use group::Rep;
+use group::{Inputs, Rep};
 use sets::MOST_EQUATIONS;
 use sponge::Sponge;
 
@@ -36,9 +37,7 @@ pub fn answers(sponge: Sponge, rep: Rep, salt: &[u8], values: &[u8], work: &mut 
     let mut sw = [0u64; MOST_EQUATIONS];
     let first = first::first_pass(
         sponge,
-        rep,
-        salt,
-        values,
+        Inputs { rep, salt, values },
         &mut sa[0..m],
         &mut sy[0..m],
         &mut sw[0..m],
@@ -70,15 +69,16 @@ pub fn two_repetitions(
     let mut y2 = [0u64; MOST_EQUATIONS];
     let mut z2 = [0u64; MOST_EQUATIONS];
     group::two_groups(
-        rep,
+        Inputs { rep, salt, values },
         0,
         leaves,
-        values,
-        other,
+        Inputs {
+            rep: other,
+            salt,
+            values: more,
+        },
         0,
         others,
-        more,
-        salt,
         circuit,
         &mut x[0..m],
         &mut y[0..m],

@@ -25,22 +25,14 @@ pub extern "C" fn bench_linear_forms(
 {
     let n = shares.len();
     let m = x.len();
-    if 118 < n {
-        return;
+    if n <= linear::VARIABLES
+        && m <= linear::EQUATIONS
+        && y.len() == m
+        && z.len() == m
+        && circuit.len() == forms::circuit_len(n, m)
+    {
+        linear::linear_forms(circuit, n, m, shares, x, y, z);
     }
-    if 121 < m {
-        return;
-    }
-    if y.len() != m {
-        return;
-    }
-    if z.len() != m {
-        return;
-    }
-    if circuit.len() != forms::circuit_len(n, m) {
-        return;
-    }
-    linear::linear_forms(circuit, n, m, shares, x, y, z);
 }
 
 // The first bytes of the tape of a seed.

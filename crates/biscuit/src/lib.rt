@@ -22,6 +22,8 @@ pub struct Layout {
 }
 
 // The map of the work buffer.
+// Stays: `Fits p` is a clause here and below, and no field of `Params`: `sets::params_of` promises zeros for a number that names no set (what may not change), and zeros do not fit.
+#[tactic(auto, using(crate::proofs::Room::sums_bounded, crate::proofs::Room::few_groups))]
 pub fn layout_of(p: Params) -> Layout
     requires { Fits p }
     ensures { LayoutOf p result }
@@ -33,10 +35,10 @@ pub fn layout_of(p: Params) -> Layout
     let roots = room + g * (16 * p.m);
     let challenges = roots + p.tau * s;
     Layout {
-        leaves: leaves,
-        room: room,
-        roots: roots,
-        challenges: challenges,
+        leaves,
+        room,
+        roots,
+        challenges,
         end: challenges + p.tau * ((p.m + 1) / 2),
     }
 }
@@ -50,6 +52,7 @@ pub fn groups_of(p: Params) -> usize
 }
 
 // Where the packed vectors of a signature begin.
+#[tactic(auto, using(crate::proofs::Sizes::shown_small, crate::proofs::Sizes::all_shown_small), unfolding(sets::specs::Sets::S))]
 pub fn packing_at(p: Params) -> usize
     requires { Fits p }
     ensures { result ≡ packing_at p }

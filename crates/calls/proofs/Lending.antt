@@ -15,7 +15,7 @@ use Rattle.sets.specs.declared.Params.{Params}
 use Rattle.refusals.specs.Refusals.{work_length, cleared}
 use Rattle.biscuit.specs.Room.{Fits}
 use Rattle.refusals.proofs.Refusals.{KnownSet}
-use Rattle.biscuit.proofs.Parts.{length-first, length-first_back}
+use Rattle.biscuit.proofs.Parts.{length-first}
 use Rattle.biscuit.proofs.Room.{fits}
 
 -- ---- a set's parameters
@@ -49,10 +49,6 @@ lent-answered false result old new k e h l = lent-kept old new k e
 module _ (work u : List ℕ) (n : ℕ) (e : n ≡ work_length) (h : work_length ≤ length work) where
   inside : n ≤ length work
   inside = omega arith
-
-  -- work whose first bytes were lent and came back as u is as long as before
-  pub work_long : length u ≡ length (take (n - 0) work) → work_length ≤ length (u ++ drop (n - 0) work)
-  work_long l = let same = length-first_back work u n inside l in omega arith
 
   -- cleared, it holds nothing of u
   pub cleared-lent : length u ≡ length (take (n - 0) work) → cleared (u ++ drop (n - 0) work) ≡ cleared work

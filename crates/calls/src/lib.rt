@@ -4,12 +4,13 @@
 #![tactic(auto)]
 
 ghost use Rattle.std.specs.Prelude.{◌≡◌, ◌≤◌, length};
-ghost use Rattle.refusals.specs.Refusals.{work_length, cleared, make_keys_sizes, public_half_sizes, sign_sizes, verify_sizes};
+ghost use Rattle.refusals.specs.Refusals.{work_length, cleared, number_of};
 ghost use Rattle.biscuit.specs.Desk.{make_keys_ended, make_keys_outcome, public_half_ended, public_half_outcome, sign_ended, sign_outcome, verify_ended, verify_outcome};
 
-use refusals::{DONE, KEY_NOT_CONSISTENT, NOT_ACCEPTED};
+use refusals::Refusal;
 
 // Make keys: fills two outputs with the keys of two seeds.
+#[tactic(auto, using(refusals::proofs::Refusals::make_keys_right))]
 pub fn make_keys(
     set: usize,
     circuit_seed: &[u8],
@@ -17,35 +18,17 @@ pub fn make_keys(
     secret_key: &mut [u8],
     public_key: &mut [u8],
     work: &mut [u8],
-) -> u8
-    ensures { make_keys_ended result secret_key.new public_key.new work.new ≡ make_keys_outcome set circuit_seed.now secret_seed.now secret_key.old public_key.old work.old }
+) -> Result<(), Refusal>
+    ensures { make_keys_ended (number_of result) secret_key.new public_key.new work.new ≡ make_keys_outcome set circuit_seed.now secret_seed.now secret_key.old public_key.old work.old }
 {
-    let refused = refusals::make_keys_sizes(
+    refusals::make_keys_sizes(
         set,
         circuit_seed.len(),
         secret_seed.len(),
         secret_key.len(),
         public_key.len(),
         work.len(),
-    );
-    if refused != DONE {
-        return refused;
-    }
-    make_keys_sized(set, circuit_seed, secret_seed, secret_key, public_key, work)
-}
-
-// Make keys where all sizes are right.
-fn make_keys_sized(
-    set: usize,
-    circuit_seed: &[u8],
-    secret_seed: &[u8],
-    secret_key: &mut [u8],
-    public_key: &mut [u8],
-    work: &mut [u8],
-) -> u8
-    requires { make_keys_sizes set (length circuit_seed.now) (length secret_seed.now) (length secret_key.old) (length public_key.old) (length work.old) ≡ 0 }
-    ensures { make_keys_ended result secret_key.new public_key.new work.new ≡ make_keys_outcome set circuit_seed.now secret_seed.now secret_key.old public_key.old work.old }
-{
+    )?;
     let p = sets::params_of(set);
     let a = sets::secret_key_len(set);
     let b = sets::public_key_len(set);
@@ -59,37 +42,34 @@ fn make_keys_sized(
         &mut work[0..n],
     );
     clear_work(work);
-    DONE
+    Ok(())
 }
 
 // Public half: fills the output with the public half of a consistent secret key.
-pub fn public_half(set: usize, secret_key: &[u8], public_key: &mut [u8], work: &mut [u8]) -> u8
-    ensures { public_half_ended result public_key.new work.new ≡ public_half_outcome set secret_key.now public_key.old work.old }
+#[tactic(auto, using(refusals::proofs::Refusals::public_half_right))]
+pub fn public_half(
+    set: usize,
+    secret_key: &[u8],
+    public_key: &mut [u8],
+    work: &mut [u8],
+) -> Result<(), Refusal>
+    ensures { public_half_ended (number_of result) public_key.new work.new ≡ public_half_outcome set secret_key.now public_key.old work.old }
 {
-    let refused = refusals::public_half_sizes(set, secret_key.len(), public_key.len(), work.len());
-    if refused != DONE {
-        return refused;
-    }
-    public_half_sized(set, secret_key, public_key, work)
-}
-
-// Public half where all sizes are right.
-fn public_half_sized(set: usize, secret_key: &[u8], public_key: &mut [u8], work: &mut [u8]) -> u8
-    requires { public_half_sizes set (length secret_key.now) (length public_key.old) (length work.old) ≡ 0 }
-    ensures { public_half_ended result public_key.new work.new ≡ public_half_outcome set secret_key.now public_key.old work.old }
-{
+    refusals::public_half_sizes(set, secret_key.len(), public_key.len(), work.len())?;
     let p = sets::params_of(set);
     let b = sets::public_key_len(set);
     let n = refusals::work_len();
     let consistent = keys::public_half(p, secret_key, &mut public_key[0..b], &mut work[0..n]);
     clear_work(work);
     if consistent {
-        return DONE;
+        Ok(())
+    } else {
+        Err(Refusal::KeyNotConsistent)
     }
-    KEY_NOT_CONSISTENT
 }
 
 // Sign: fills the output with the signature of the message by a consistent secret key.
+#[tactic(auto, using(refusals::proofs::Refusals::sign_right))]
 pub fn sign(
     set: usize,
     secret_key: &[u8],
@@ -97,35 +77,17 @@ pub fn sign(
     random: &[u8],
     signature: &mut [u8],
     work: &mut [u8],
-) -> u8
-    ensures { sign_ended result signature.new work.new ≡ sign_outcome set secret_key.now message.now random.now signature.old work.old }
+) -> Result<(), Refusal>
+    ensures { sign_ended (number_of result) signature.new work.new ≡ sign_outcome set secret_key.now message.now random.now signature.old work.old }
 {
-    let refused = refusals::sign_sizes(
+    refusals::sign_sizes(
         set,
         secret_key.len(),
         message.len(),
         random.len(),
         signature.len(),
         work.len(),
-    );
-    if refused != DONE {
-        return refused;
-    }
-    sign_sized(set, secret_key, message, random, signature, work)
-}
-
-// Sign where all sizes are right.
-fn sign_sized(
-    set: usize,
-    secret_key: &[u8],
-    message: &[u8],
-    random: &[u8],
-    signature: &mut [u8],
-    work: &mut [u8],
-) -> u8
-    requires { sign_sizes set (length secret_key.now) (length message.now) (length random.now) (length signature.old) (length work.old) ≡ 0 }
-    ensures { sign_ended result signature.new work.new ≡ sign_outcome set secret_key.now message.now random.now signature.old work.old }
-{
+    )?;
     let p = sets::params_of(set);
     let a = sets::signature_len(set);
     let n = refusals::work_len();
@@ -139,53 +101,39 @@ fn sign_sized(
     );
     clear_work(work);
     if signed {
-        return DONE;
+        Ok(())
+    } else {
+        Err(Refusal::KeyNotConsistent)
     }
-    KEY_NOT_CONSISTENT
 }
 
-// Verify: 0 where the signature is accepted for the message under the public key.
+// Verify: `Ok` where the signature is accepted for the message under the public key.
+#[tactic(auto, using(refusals::proofs::Refusals::verify_right))]
 pub fn verify(
     set: usize,
     public_key: &[u8],
     message: &[u8],
     signature: &[u8],
     work: &mut [u8],
-) -> u8
-    ensures { verify_ended result work.new ≡ verify_outcome set public_key.now message.now signature.now work.old }
+) -> Result<(), Refusal>
+    ensures { verify_ended (number_of result) work.new ≡ verify_outcome set public_key.now message.now signature.now work.old }
 {
-    let refused = refusals::verify_sizes(
+    refusals::verify_sizes(
         set,
         public_key.len(),
         message.len(),
         signature.len(),
         work.len(),
-    );
-    if refused != DONE {
-        return refused;
-    }
-    verify_sized(set, public_key, message, signature, work)
-}
-
-// Verify where all sizes are right.
-fn verify_sized(
-    set: usize,
-    public_key: &[u8],
-    message: &[u8],
-    signature: &[u8],
-    work: &mut [u8],
-) -> u8
-    requires { verify_sizes set (length public_key.now) (length message.now) (length signature.now) (length work.old) ≡ 0 }
-    ensures { verify_ended result work.new ≡ verify_outcome set public_key.now message.now signature.now work.old }
-{
+    )?;
     let p = sets::params_of(set);
     let n = refusals::work_len();
     let accepted = verifying::accepts(p, public_key, message, signature, &mut work[0..n]);
     clear_work(work);
     if accepted {
-        return DONE;
+        Ok(())
+    } else {
+        Err(Refusal::NotAccepted)
     }
-    NOT_ACCEPTED
 }
 
 // Sets the bytes of work that a call uses to 0.
@@ -194,5 +142,5 @@ fn clear_work(work: &mut [u8])
     ensures { work.new ≡ cleared work.old }
 {
     let n = refusals::work_len();
-    memory::clear(&mut work[0..n]);
+    work[0..n].fill(0);
 }

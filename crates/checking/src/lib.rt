@@ -20,6 +20,7 @@ pub fn check<R: Read + Drop>(rt: HostRuntime, mut file: R) -> io::Result<()> {
 }
 
 // Reads as much of a file as the program reads, and gives how many bytes that was.
+// Stays: a loop over `read`, since `read_to_end` fills a `Vec` and the project has no heap.
 fn read<R: Read>(file: &mut R, input: &mut [u8]) -> io::Result<usize>
     requires { length input.old ≡ input_limit }
     ensures { IfOk result (λ n. n ≤ length input.new) }

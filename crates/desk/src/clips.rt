@@ -16,7 +16,8 @@ pub extern "C" fn envelope_write(
 ) -> u8
     ensures { write_ended result envelope.new ≡ write_outcome set public_key.now signature.now message.now envelope.old }
 {
-    envelope::write(set, public_key, signature, message, envelope)
+    let answer = envelope::write(set, public_key, signature, message, envelope);
+    refusals::number_of(&answer)
 }
 
 // Gives the number of reading an envelope.
@@ -24,8 +25,8 @@ pub extern "C" fn envelope_write(
 pub extern "C" fn envelope_read(envelope: &[u8]) -> u8
     ensures { result ≡ (read_outcome envelope.now).number }
 {
-    let reading = envelope::read(envelope);
-    reading.number
+    let answer = envelope::read(envelope);
+    refusals::number_of(&answer)
 }
 
 // Gives the header of an envelope; all 0 on refusal.
@@ -33,8 +34,7 @@ pub extern "C" fn envelope_read(envelope: &[u8]) -> u8
 pub extern "C" fn envelope_header(envelope: &[u8]) -> Header
     ensures { result ≡ (read_outcome envelope.now).header }
 {
-    let reading = envelope::read(envelope);
-    reading.header
+    envelope::read(envelope).unwrap_or_default()
 }
 
 // Gives the places where the parts of an envelope begin, and where the last ends; all 0 on refusal.

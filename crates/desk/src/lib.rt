@@ -19,7 +19,8 @@ pub extern "C" fn biscuit_make_keys(
 ) -> u8
     ensures { make_keys_ended result secret_key.new public_key.new work.new ≡ make_keys_outcome set circuit_seed.now secret_seed.now secret_key.old public_key.old work.old }
 {
-    calls::make_keys(set, circuit_seed, secret_seed, secret_key, public_key, work)
+    let answer = calls::make_keys(set, circuit_seed, secret_seed, secret_key, public_key, work);
+    refusals::number_of(&answer)
 }
 
 // Gives the public half of a secret key.
@@ -32,7 +33,8 @@ pub extern "C" fn biscuit_public_half(
 ) -> u8
     ensures { public_half_ended result public_key.new work.new ≡ public_half_outcome set secret_key.now public_key.old work.old }
 {
-    calls::public_half(set, secret_key, public_key, work)
+    let answer = calls::public_half(set, secret_key, public_key, work);
+    refusals::number_of(&answer)
 }
 
 // Signs a message.
@@ -47,7 +49,8 @@ pub extern "C" fn biscuit_sign(
 ) -> u8
     ensures { sign_ended result signature.new work.new ≡ sign_outcome set secret_key.now message.now random.now signature.old work.old }
 {
-    calls::sign(set, secret_key, message, random, signature, work)
+    let answer = calls::sign(set, secret_key, message, random, signature, work);
+    refusals::number_of(&answer)
 }
 
 // Verifies a signature.
@@ -61,5 +64,6 @@ pub extern "C" fn biscuit_verify(
 ) -> u8
     ensures { verify_ended result work.new ≡ verify_outcome set public_key.now message.now signature.now work.old }
 {
-    calls::verify(set, public_key, message, signature, work)
+    let answer = calls::verify(set, public_key, message, signature, work);
+    refusals::number_of(&answer)
 }

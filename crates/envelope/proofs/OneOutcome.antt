@@ -1,9 +1,13 @@
 -- Each public function of this crate has one outcome: its promise is an equation to what the inputs, and what lay in the lent part before, determine. So number, header, places and every byte are settled, for refusals
 -- too. Of a part that is handed back it is settled where it lies and what it holds; the name that Rattle's logic gives a reference is no part of the machine's state. Assumes nothing.
-use mathlib.Core.Path.{sym, ap, ◌∙◌}
+use mathlib.Core.Path.{sym, ap, ap₂, ◌∙◌}
+use Rattle.std.proofs.Common.{Result}
 use Rattle.memory.specs.Outcome.{OneOutcome, OneSight}
-use Rattle.envelope.specs.declared.Reading.{Reading}
+use Rattle.refusals.specs.declared.Refusal.{Refusal}
+use Rattle.refusals.proofs.Numbers.{same_number}
+use Rattle.envelope.specs.declared.Header.{Header}
 use Rattle.envelope.specs.declared.Places.{Places}
+use Rattle.envelope.proofs.Outcomes.{same_reading}
 use Rattle.envelope.specs.Envelope.{WriteOutcome, Lent, lent}
 use Rattle.envelope.proofs.write as write
 use Rattle.envelope.proofs.read as read
@@ -14,10 +18,11 @@ use Rattle.envelope.proofs.message_of as message-of
 
 pub write_one_outcome : OneOutcome write.Kinds.ps write.Kinds.r write.Reads.Asked write.Reads.Learnt
 write_one_outcome κs a good asked o q x y =
-    ap (λ (w : WriteOutcome). (w.number, (tt, (tt, (tt, (tt, (w.envelope, tt))))))) (x.promised ∙ sym y.promised)
+    let same = x.promised ∙ sym y.promised in
+    ap₂ (λ (r : Result (Unit {0}) Refusal) (w : WriteOutcome). (r, (tt, (tt, (tt, (tt, (w.envelope, tt))))))) (same_number o.0 q.0 (ap (λ (w : WriteOutcome). w.number) same)) same
 
 pub read_one_outcome : OneOutcome read.Kinds.ps read.Kinds.r read.Reads.Asked read.Reads.Learnt
-read_one_outcome κs a good asked o q x y = ap (λ (r : Reading). (r, (tt, tt))) (x.promised ∙ sym y.promised)
+read_one_outcome κs a good asked o q x y = ap (λ (r : Result Header Refusal). (r, (tt, tt))) (same_reading o.0 q.0 (x.promised ∙ sym y.promised))
 
 pub places_of_one_outcome : OneOutcome places_of.Kinds.ps places_of.Kinds.r places_of.Reads.Asked places_of.Reads.Learnt
 places_of_one_outcome κs a good asked o q x y = ap (λ (p : Places). (p, (tt, tt))) (x.promised ∙ sym y.promised)

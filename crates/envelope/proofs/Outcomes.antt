@@ -1,21 +1,22 @@
 -- How a call ended, from its number: writing that is refused changes nothing, reading that is refused gives a header of zeros.
 -- Assumes nothing.
-use mathlib.Core.Path.{◌≡◌, refl, sym, ap, ap₂, ◌∙◌, subst}
-use mathlib.Core.Bool.{Bool, cond}
+use mathlib.Core.Path.{◌≡◌, refl, sym, ap, ◌∙◌, subst}
 use mathlib.Core.List.{List, [], ◌∷◌}
-use Prim.Native.Nat.{ℕ, ◌+◌, ◌-◌, ◌≤◌, ◌<◌}
+use Prim.Native.Nat.{ℕ, ◌+◌, ◌-◌, ◌≤◌}
 use native.Mathlib.Omega.{arith}
-use native.Mathlib.Decide.{dec_lt}
 use lib.ListN.{length, get_or, drop, length-drop}
 use lib.Seq.{length-take-le}
-use borrow.Author.Tests.{lt-ltb, le-ltb, eq-eqb, ne_eqb}
+use Rattle.std.proofs.Common.{Result, Ok, Err}
+use Rattle.std.proofs.lemmas.Bool.Decides.{nat_tests}
 use Rattle.memory.specs.Lists.{over}
 use Rattle.sets.specs.Sets.{params_of, public_key_length, signature_length}
 use Rattle.refusals.specs.Refusals.{output_after}
+use Rattle.refusals.proofs.Numbers.{refusal_from_one, same_refusal}
 use Rattle.refusals.proofs.Lent.{output_after_refused, output_after-done}
-use Rattle.envelope.specs.declared.Reading.{Reading}
+use Rattle.refusals.specs.declared.Refusal.{Refusal}
+use Rattle.envelope.specs.declared.Header.{Header}
 use Rattle.envelope.specs.declared.Places.{Places}
-use Rattle.envelope.specs.Envelope.{header_length, header, header_of, envelope_of, placed, write_sizes, write_ended, write_outcome, header_number, read_number, read_ended, read_outcome, places, places_of, between, key_bytes, signature_bytes, message_bytes, Lent, key_in, signature_in, message_in}
+use Rattle.envelope.specs.Envelope.{Reading, header_length, header_of, envelope_of, placed, write_sizes, write_ended, write_outcome, header_number, read_number, read_ended, reading_of, read_outcome, places, places_of, between, key_bytes, signature_bytes, message_bytes, Lent, key_in, signature_in, message_in}
 use Rattle.envelope.proofs.Sizes.{read_right}
 
 -- ---- writing
@@ -46,26 +47,14 @@ headed (a ∷ []) h = absurd (omega arith)
 headed (a ∷ b ∷ []) h = absurd (omega arith)
 headed (a ∷ b ∷ c ∷ e) h = refl
 
-pub read_short : (e : List ℕ) → length e < header_length → read_number e ≡ 10
-unfolding read_number
-read_short e h = simp (lt-ltb (length e) header_length h)
-
 pub read_long : (e : List ℕ) → header_length ≤ length e → read_number e ≡ header_number (header_of e) (length e)
 unfolding read_number
-read_long e h = simp (le-ltb (length e) header_length h)
+read_long e h = grind (arith, nat_tests)
 
 module _ (e : List ℕ) where
-  pub read_refused : (n : ℕ) (r : Reading) → read_number e ≡ n → (n ≡ 0 → ⊥) → r.number ≡ n → r.header ≡ header 0 0 0 → r ≡ read_outcome e
-  unfolding read_outcome
-  read_refused n r told refused number zeros =
-      let test = ap (λ (b : Bool). cond b (header_of e) (header 0 0 0)) (ne_eqb (read_number e) 0 (λ z. refused (sym told ∙ z))) in
-      ap₂ read_ended (number ∙ sym told) (zeros ∙ sym test)
-
   pub read_done : read_number e ≡ 0 → read_ended 0 (header_of e) ≡ read_outcome e
   unfolding read_outcome
-  read_done z =
-      let test = ap (λ (b : Bool). cond b (header_of e) (header 0 0 0)) (eq-eqb (read_number e) 0 z) in
-      ap₂ read_ended (sym z) (sym test)
+  read_done z = grind (arith, nat_tests)
 
   -- what a reading tells
   pub told_number : (r : Reading) → r ≡ read_outcome e → r.number ≡ read_number e
@@ -75,15 +64,28 @@ module _ (e : List ℕ) where
   pub told_header : (r : Reading) → r ≡ read_outcome e → read_number e ≡ 0 → r.header ≡ header_of e
   told_header r told z = ap (λ (x : Reading). x.header) (told ∙ sym (read_done z))
 
-  -- ---- places
-
   pub places_refused : (read_number e ≡ 0 → ⊥) → places_of e ≡ places 0 0 0 0
   unfolding places_of
-  places_refused n = ap (λ (b : Bool). cond b (placed (header_of e)) (places 0 0 0 0)) (ne_eqb (read_number e) 0 n)
+  places_refused n = grind (arith, nat_tests)
 
   pub places-done : read_number e ≡ 0 → places_of e ≡ placed (header_of e)
   unfolding places_of
-  places-done z = ap (λ (b : Bool). cond b (placed (header_of e)) (places 0 0 0 0)) (eq-eqb (read_number e) 0 z)
+  places-done z = grind (arith, nat_tests)
+
+-- what an answer tells: with the number 0 it is the header
+pub read_ok : (r : Result Header Refusal) (h : Header) → reading_of r ≡ read_ended 0 h → r ≡ Ok h
+read_ok (Ok k) h told = ap (λ (x : Reading). Ok x.header) told
+read_ok (Err refusal) h told =
+    let positive = refusal_from_one refusal in
+    let number = ap (λ (x : Reading). x.number) told in
+    absurd (omega arith)
+
+pub same_reading : (r q : Result Header Refusal) → reading_of r ≡ reading_of q → r ≡ q
+same_reading (Ok h) q told = sym (read_ok q h (sym told))
+same_reading (Err refusal) (Ok h) told = read_ok (Err refusal) h told
+same_reading (Err refusal) (Err other) told = ap Err (same_refusal refusal other (ap (λ (x : Reading). x.number) told))
+
+-- ---- places
 
 -- the parts lie one behind the other inside the bytes
 pub record InOrder (p : Places) (n : ℕ) : Type 0 where
@@ -93,16 +95,8 @@ pub record InOrder (p : Places) (n : ℕ) : Type 0 where
   pub inside : p.end ≤ n
 
 pub places_in_order : (e : List ℕ) → InOrder (places_of e) (length e)
-places_in_order e =
-    elim (dec_lt 0 (read_number e)) as (λ d. InOrder (places_of e) (length e)) [
-      | yes n ↦
-          subst (λ (p : Places). InOrder p (length e)) (sym (places_refused e (λ z. omega arith)))
-          (record { key = omega arith; signature = omega arith; message = omega arith; inside = omega arith })
-      | no n ↦ (let z : read_number e ≡ 0 = omega arith in
-          let t = (read_right e z).right.total in
-          subst (λ (p : Places). InOrder p (length e)) (sym (places-done e z))
-          (record { key = omega arith; signature = omega arith; message = omega arith; inside = omega arith }))
-    ]
+unfolding places_of
+places_in_order e = grind (arith, nat_tests, read_right)
 
 -- the same of places that a call gave
 pub told_in_order : (e : List ℕ) (p : Places) → p ≡ places_of e → InOrder p (length e)

@@ -12,9 +12,8 @@ use Rattle.memory.proofs.Parts.{over_fits}
 use Rattle.field.specs.Packing.{Bytes}
 use Rattle.sets.specs.Sets.{params_of, public_key_length, signature_length}
 use Rattle.envelope.specs.declared.Header.{Header}
-use Rattle.envelope.specs.declared.Reading.{Reading}
 use Rattle.envelope.specs.declared.Places.{Places}
-use Rattle.envelope.specs.Envelope.{the_version, header, header_bytes, header_of, envelope_of, placed, WriteOutcome, write_ended, write_outcome, read_number, read_ended, read_outcome, places_of, between, key_bytes, signature_bytes, message_bytes, Lent, key_in, signature_in, message_in}
+use Rattle.envelope.specs.Envelope.{Reading, the_version, header, header_bytes, header_of, envelope_of, placed, WriteOutcome, write_ended, write_outcome, read_number, read_ended, read_outcome, places_of, between, key_bytes, signature_bytes, message_bytes, Lent, key_in, signature_in, message_in}
 use Rattle.envelope.proofs.Heading.{header_of_append, header_read_back, header-written_back}
 use Rattle.envelope.proofs.Laid.{length-header, length-envelope, first_three, cut_in_four}
 use Rattle.envelope.proofs.Outcomes.{headed, write_done, read_done, places-done, told_number, told_header, key_told, signature_told, message_told, parts_sized}

@@ -1,11 +1,11 @@
 -- The clip envelope (document 01, "The clip envelope" and "What the desk says"): its header, its bytes, what writing and reading promise, and where the parts lie.
 -- `..Before` of an output is what stood there when the call began. Assumes nothing.
-use Rattle.std.specs.Prelude.{cond, List, ◌++◌, ℕ, ◌+◌, ◌-◌, eqb, ltb, length, take, drop}
+use Rattle.std.specs.Prelude.{cond, List, ◌++◌, ℕ, ◌+◌, ◌-◌, eqb, ltb, length, take, drop, Result, Ok, Err}
 use Rattle.std.specs.Borrow.{Bor}
 use Rattle.sets.specs.Sets.{params_of, public_key_length, signature_length}
-use Rattle.refusals.specs.Refusals.{done, no_such_set, message_too_long, key_length_wrong, signature_length_wrong, output_too_short, envelope_length_wrong, envelope_version_wrong, message_limit, bad_set, differs, output_after}
+use Rattle.refusals.specs.Refusals.{done, no_such_set, message_too_long, key_length_wrong, signature_length_wrong, output_too_short, envelope_length_wrong, envelope_version_wrong, message_limit, bad_set, differs, output_after, refusal_number}
+use Rattle.refusals.specs.declared.Refusal.{Refusal}
 use Rattle.envelope.specs.declared.Header.{Header}
-use Rattle.envelope.specs.declared.Reading.{Reading}
 use Rattle.envelope.specs.declared.Places.{Places}
 use Rattle.envelope.specs.Bits.{bits, bytes, field}
 
@@ -86,9 +86,19 @@ header_number h total =
 unfoldable pub read_number : List ℕ → ℕ
 read_number e = cond (ltb (length e) header_length) envelope_length_wrong (header_number (header_of e) (length e))
 
+-- the number, and the header
+pub record Reading : Type 0 where
+  pub number : ℕ
+  pub header : Header
+
 -- how reading ended
 abbrev pub read_ended : ℕ → Header → Reading
 read_ended number header = record { number = number; header = header }
+
+-- the reading that an answer stands for
+abbrev pub reading_of : Result Header Refusal → Reading
+reading_of (Ok h) = read_ended done h
+reading_of (Err refusal) = read_ended (refusal_number refusal) (header 0 0 0)
 
 -- what it promises: the number, and the header, on refusal one of zeros
 unfoldable pub read_outcome : List ℕ → Reading

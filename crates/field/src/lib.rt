@@ -24,26 +24,17 @@ pub fn product(a: u8, b: u8) -> u8
     ensures { result ≡ mul a b }
 {
     let table = products();
-    table[(a % 16) as usize * 16 + (b % 16) as usize]
+    table[usize::from(a % 16) * 16 + usize::from(b % 16)]
 }
 
 // Packs the elements, two to a byte, over the start of `out`: as many bytes as have room. The later bytes of `out` are kept.
 pub fn pack_into(elements: &[u8], out: &mut [u8])
     ensures { out.new ≡ over (pack elements.now) out.old }
 {
-    let n = fitting(elements.len(), out.len());
-    let mut i = 0;
-    while i < n {
+    let n = elements.len().div_ceil(2).min(out.len());
+    for i in 0..n {
         out[i] = packed(elements, i);
-        i += 1;
     }
-}
-
-// How many bytes of n packed elements have room.
-fn fitting(n: usize, room: usize) -> usize
-    ensures { result ≡ min (packed_length n) room }
-{
-    memory::lesser(n / 2 + n % 2, room)
 }
 
 // The i-th byte of the packed elements.
@@ -63,10 +54,8 @@ fn packed(elements: &[u8], i: usize) -> u8
 pub fn unpack_into(bytes: &[u8], out: &mut [u8])
     ensures { out.new ≡ unpack (length out.old) bytes.now }
 {
-    let mut i = 0;
-    while i < out.len() {
-        out[i] = element(bytes, i);
-        i += 1;
+    for (i, x) in out.iter_mut().enumerate() {
+        *x = element(bytes, i);
     }
 }
 

@@ -1,17 +1,18 @@
 -- The values of affine forms whose table stands in lent bytes: a row times a vector as a sum, one product more, a form's value at each place,
 -- and that the three tables give algorithm 10. Assumes nothing.
 use mathlib.Core.Path.{◌≡◌, refl, sym, ap, ap₂, ◌∙◌}
-use mathlib.Core.List.{List}
-use Prim.Native.Nat.{ℕ, ◌+◌, ◌*◌, ◌%◌, ◌<◌, max}
+use mathlib.Core.List.{List, ◌++◌, append-nil}
+use Prim.Native.Nat.{ℕ, ◌+◌, ◌*◌, ◌≤◌, ◌<◌, max}
 use native.Mathlib.Numerals.{add-one}
 use native.Mathlib.Omega.{arith}
 use lib.Bits.{bit_xor, xor_zero_l}
-use lib.ListN.{length, get_or, drop, replicate, length-replicate}
-use lib.Seq.{drop-drop, ext_get_or}
+use lib.ListN.{length, take, drop, set, replicate, length-replicate, drop_of_length-le}
+use lib.Seq.{take_all, drop-drop, ext_get_or}
+use Rattle.memory.proofs.Copied.{copied_rest}
+use Rattle.memory.proofs.Parts.{copied_more}
 use Rattle.memory.proofs.Xors.{get_or_zeros}
 use Rattle.field.specs.Field.{mul}
 use Rattle.field.specs.Packing.{packed_length, nib, unpack}
-use Rattle.field.specs.ProductTable.{ProductTable}
 use Rattle.field.specs.Sums.{dot_of}
 use Rattle.field.specs.Vectors.{◌!◌, ◌⊕◌, ◌⊙◌, dot}
 use Rattle.field.proofs.Packing.{nib-drop, length-unpack}
@@ -29,11 +30,22 @@ row-dot bytes row n s =
     dot-table n (nib (drop row bytes)) s
     ∙ dot_of-same n (nib (drop row bytes)) (λ j. nib bytes (row * 2 + j)) (λ j. s ! j) (λ j. s ! j) (λ j h. nib-drop row bytes j) (λ j h. refl)
 
--- one product more, from the table
-pub sum_more : (products : List ℕ) → ProductTable products → (n sum a b : ℕ) (f g : ℕ → ℕ) → sum ≡ dot_of n f g → a ≡ f n → b ≡ g n
-    → bit_xor sum (get_or products (a % 16 * 16 + b % 16) 0) ≡ dot_of (n + 1) f g
-sum_more products table n sum a b f g e ea eb =
-    ap₂ bit_xor e (table.entry a b ∙ ap₂ mul ea eb) ∙ sym (dot_of-suc n f g) ∙ ap (λ (k : ℕ). dot_of k f g) (sym (add-one n))
+-- one product more
+pub sum_more : (n sum p : ℕ) (f g : ℕ → ℕ) → sum ≡ dot_of n f g → p ≡ mul (f n) (g n) → bit_xor sum p ≡ dot_of (n + 1) f g
+sum_more n sum p f g e h = ap₂ bit_xor e h ∙ sym (dot_of-suc n f g) ∙ ap (λ (k : ℕ). dot_of k f g) (sym (add-one n))
+
+-- ---- a loop that writes v over o, entry by entry, where an entry goes by the old one
+
+module _ (v o x : List ℕ) (k : ℕ) (so_far : x ≡ take k v ++ drop k o) (long : length v ≡ length o) where
+  -- what stands at the place
+  pub written_next : k < length o → x ! k ≡ o ! k
+  written_next h = ap (λ (l : List ℕ). l ! k) so_far ∙ copied_rest v o k (omega arith)
+
+  pub written_more : (b : ℕ) → k < length o → b ≡ v ! k → set x k b ≡ take (k + 1) v ++ drop (k + 1) o
+  written_more b h e = ap₂ (λ (l : List ℕ) (a : ℕ). set l k a) so_far e ∙ copied_more v o k (omega arith) h
+
+  pub written_all : length o ≤ k → x ≡ v
+  written_all h = so_far ∙ ap₂ (λ (y z : List ℕ). y ++ z) (take_all k v (omega arith)) (drop_of_length-le o {i = k} h) ∙ append-nil v
 
 -- ---- a table of affine forms in the bytes
 

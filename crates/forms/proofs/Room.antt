@@ -9,6 +9,8 @@ use lib.Dec.{lit<}
 use lib.ListN.{length, get_or, take, drop, drop_of_length-le}
 use lib.Pow.{pow_mono}
 use lib.Seq.{take_at, drop-drop, drop-cons, get_or-take}
+use Rattle.std.specs.Int.{div_ceil}
+use Rattle.memory.proofs.Lists.{room}
 use Rattle.field.specs.Packing.{packed_length, nib, unpack}
 use Rattle.field.specs.Vectors.{◌!◌}
 use Rattle.field.proofs.Packing.{half_up, get_or-unpack, unpack-same, nib-take, nib-drop}
@@ -53,6 +55,10 @@ pub packed_holds : (n : ℕ) → n ≤ packed_length n * 2
 unfolding packed_length
 packed_holds n = omega arith
 
+pub half_ceil : (n : ℕ) → div_ceil n 2 ≡ packed_length n
+unfolding packed_length
+half_ceil n = omega arith
+
 pub rows_size : (n m : ℕ) → m * (n / 2 + n % 2) ≡ m * packed_length n
 rows_size n m = ap (λ (w : ℕ). m * w) (half_up n)
 
@@ -63,6 +69,16 @@ affine_size n m = ap₂ (λ (a b : ℕ). a + b) (half_up m) (rows_size n m)
 pub affine_two : (n m : ℕ) → affine_length n m ≡ packed_length m + m * packed_length n
 unfolding affine_length
 affine_two n m = refl
+
+-- row k of a table that has room: where it stands, as the code works it out, and that it has room
+pub row_place : (start n m k size width first : ℕ) → start + affine_length n m ≤ size → k < m → width ≡ div_ceil n 2 → first ≡ div_ceil m 2
+    → (start + first + k * width ≡ start + packed_length m + k * packed_length n) × (start + first + k * width + packed_length n ≤ size)
+row_place start n m k size width first h l ew ef =
+    let r = room k m (packed_length n) l in
+    let t = affine_two n m in
+    let w = ap (λ (x : ℕ). k * x) (ew ∙ half_ceil n) in
+    let f = ef ∙ half_ceil m in
+    (omega arith, omega arith)
 
 pub circuit_three : (n m : ℕ) → circuit_length n m ≡ affine_length n m + affine_length n m + affine_length n m
 unfolding circuit_length

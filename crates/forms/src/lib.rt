@@ -6,19 +6,19 @@
 
 mod values;
 
-ghost use Rattle.std.specs.Prelude.{◌≡◌, ◌≤◌, length};
+ghost use Rattle.std.specs.Prelude.{◌≡◌, ◌<◌, ◌≤◌, length};
 ghost use Rattle.sponge.specs.Sponge.{shake256};
-ghost use Rattle.forms.specs.Circuit.{Circuit, eval_circuit};
+ghost use Rattle.forms.specs.Circuit.{Circuit, affine_length, eval_circuit};
 ghost use Rattle.forms.specs.Room.{circuit_length, HoldsCircuit, hidden_in};
 
-use sponge::Sponge;
+use values::Products;
 
 // The bytes that hold a circuit of m equations in n variables.
 pub fn circuit_len(n: usize, m: usize) -> usize
     requires { (n ≤ 118) × (m ≤ 121) }
     ensures { result ≡ circuit_length n m }
 {
-    let size = m / 2 + m % 2 + m * (n / 2 + n % 2);
+    let size = table_len(n, m);
     size + size + size
 }
 
@@ -26,8 +26,7 @@ pub fn circuit_len(n: usize, m: usize) -> usize
 pub fn tape_bytes(seed: &[u8], out: &mut [u8])
     ensures { out.new ≡ shake256 seed.now (length out.old) }
 {
-    let tape = Sponge::new().absorb(seed).finish();
-    tape.squeeze(out);
+    sponge::shake256(seed, out);
 }
 
 // The hidden party of repetition e, from 1 to 2^l, of the bytes that stand for all repetitions.
@@ -35,7 +34,7 @@ pub fn hidden_party(bytes: &[u8], l: usize, e: usize) -> usize
     requires { (l ≤ 8) × (1 ≤ e) × (e ≤ length bytes.now) }
     ensures { result ≡ hidden_in l bytes.now e }
 {
-    let b = memory::wide(bytes[e - 1]);
+    let b = usize::from(bytes[e - 1]);
     b % (1 << l) + 1
 }
 
@@ -44,12 +43,21 @@ pub fn eval_circuit(circuit: &[u8], n: usize, m: usize, s: &[u8], y: &mut [u8], 
     requires { (n ≤ 118) × (m ≤ 121) × (length circuit.now ≡ circuit_length n m) × (length s.now ≡ n) × (length y.old ≡ m) × (length t.old ≡ m) }
     ensures { (f : Circuit) → HoldsCircuit n m f circuit.now → eval_circuit s.now f ≡ record { y = y.new; t = t.new } }
 {
-    let products = field::products();
-    let size = m / 2 + m % 2 + m * (n / 2 + n % 2);
-    memory::clear(y);
-    memory::clear(t);
+    let products = Products::new();
+    let size = table_len(n, m);
+    y.fill(0);
+    t.fill(0);
     values::add_affine(circuit, 0, s, &products, t);
     values::add_affine(circuit, size, s, &products, y);
     values::multiply(y, &products, t);
     values::add_affine(circuit, size + size, s, &products, t);
+}
+
+// The bytes of one of a circuit's three tables: the constants of m forms in n variables, and then their rows.
+fn table_len(n: usize, m: usize) -> usize
+    requires { (n ≤ 118) × (m ≤ 121) }
+    ensures size { result ≡ affine_length n m }
+    ensures small { result < 65536 }
+{
+    m.div_ceil(2) + m * n.div_ceil(2)
 }

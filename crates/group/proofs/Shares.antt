@@ -3,7 +3,7 @@
 use mathlib.Core.Bool.{cond}
 use mathlib.Core.List.{List, ◌++◌}
 use mathlib.Core.Path.{◌≡◌, refl, sym, ap, ap₂, subst, fun_ext, ◌∙◌}
-use Prim.Native.Nat.{ℕ, suc, ◌+◌, ◌-◌, ◌*◌, ◌/◌, ◌%◌, ◌≤◌, ◌<◌}
+use Prim.Native.Nat.{ℕ, suc, min, ◌+◌, ◌-◌, ◌*◌, ◌/◌, ◌%◌, ◌≤◌, ◌<◌}
 use native.Mathlib.Nat.{zero-add, sub-zero, mul-le-mul}
 use native.Mathlib.Decide.{dec_lt}
 use native.Mathlib.Omega.{arith}
@@ -15,7 +15,7 @@ use Rattle.memory.specs.Lists.{put}
 use Rattle.memory.proofs.Parts.{length-put, lent-put, length-lent, get_d_part, get_or-put-before, get_or-put_in, get_or-put_after}
 use Rattle.field.specs.Packing.{Elements, nib, unpack, packed_length}
 use Rattle.field.specs.Vectors.{◌!◌}
-use Rattle.field.proofs.Packing.{half_up, get_or-unpack, nib-drop}
+use Rattle.field.proofs.Packing.{get_or-unpack, nib-drop}
 use Rattle.lanes.specs.Lanes.{lane, Holds}
 use Rattle.turning.specs.Turns.{Turned}
 use Rattle.turning.proofs.Packed.{turned_holds}
@@ -52,6 +52,11 @@ filled-tape bytes last fields n len e room el =
     whole : last ≡ shake256 fields len
     whole = el ∙ ap (shake256 fields) part
 
+-- the bytes of packed elements, as the library divides and rounds up
+pub packed_is : (n r : ℕ) → r ≡ n / 2 + min 1 (n % 2) → r ≡ packed_length n
+unfolding packed_length
+packed_is n r e = grind (arith, e)
+
 -- the shares of a tape depend on the sizes alone
 pub raw_same : (P Q : Params) (salt : List ℕ) (e i : ℕ) (seed : List ℕ) → P.n ≡ Q.n → P.m ≡ Q.m → raw_share P salt e i seed ≡ raw_share Q salt e i seed
 unfolding raw_share
@@ -60,25 +65,19 @@ raw_same P Q salt e i seed en em = rw (en, em)
 module _ (rep : Rep) where
   -- ---- where things stand
 
-  pub mask-place : (rep.n / 2 + rep.n % 2) * 2 ≡ mask_at rep
-  unfolding mask_at
-  mask-place = ap (λ (x : ℕ). x * 2) (half_up rep.n)
-
-  pub helper-place : (rep.n / 2 + rep.n % 2 + (rep.m / 2 + rep.m % 2)) * 2 ≡ helper_at rep
-  unfolding helper_at
-  helper-place = ap (λ (x : ℕ). x * 2) (ap₂ (λ (x y : ℕ). x + y) (half_up rep.n) (half_up rep.m))
-
-  pub tape_size : rep.n / 2 + rep.n % 2 + (rep.m / 2 + rep.m % 2) + (rep.m / 2 + rep.m % 2) ≡ tape_length rep.n rep.m
-  unfolding tape_length
-  tape_size = ap₂ (λ (x y : ℕ). x + y + y) (half_up rep.n) (half_up rep.m)
-
   pub tape-room : Sized rep → tape_length rep.n rep.m ≤ 184
   unfolding tape_length packed_length
   tape-room z = let a = z.variables in let b = z.equations in omega arith
 
+  -- the bytes of a tape, as the code adds them up
+  pub tape_is : (a b : ℕ) → a ≡ rep.n / 2 + min 1 (rep.n % 2) → b ≡ rep.m / 2 + min 1 (rep.m % 2) → a + 2 * b ≡ tape_length rep.n rep.m
+  unfolding tape_length packed_length
+  tape_is a b ea eb = grind (arith, ea, eb)
+
   -- the rows of a table are few enough to count
-  pub rows-room : Sized rep → rep.m * (rep.n / 2 + rep.n % 2) ≤ 121 * 60
-  rows-room z = let a = z.variables in let b = z.equations in mul-le-mul b (let h : rep.n / 2 + rep.n % 2 ≤ 60 = omega arith in h)
+  pub rows-room : Sized rep → rep.m * packed_length rep.n ≤ 121 * 60
+  unfolding packed_length
+  rows-room z = let a = z.variables in mul-le-mul z.equations (let h : (rep.n + 1) / 2 ≤ 60 = omega arith in h)
 
   -- a tape lies in 184 bytes
   pub tape_fits : (x : List ℕ) → Sized rep → length (shake256 x (tape_length rep.n rep.m)) ≤ 184

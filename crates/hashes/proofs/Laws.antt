@@ -1,10 +1,10 @@
 -- The fields of a use laid one after another in a block, and the laws that callers cite.
 -- Assumes nothing.
-use mathlib.Core.Path.{◌≡◌, refl, ap, ◌∙◌}
+use mathlib.Core.Path.{◌≡◌, refl, ap, ap₂, ◌∙◌}
 use mathlib.Core.List.{List, [], ◌∷◌, ◌++◌, append_assoc}
-use Prim.Native.Nat.{ℕ, ◌+◌, ◌-◌, ◌*◌, ◌/◌, ◌%◌, ◌<◌}
+use Prim.Native.Nat.{ℕ, ◌+◌, ◌-◌, ◌*◌, ◌<◌}
 use native.Mathlib.Omega.{arith}
-use lib.ListN.{length, take, drop, set, replicate, length-append}
+use lib.ListN.{length, get_or, take, drop, set, replicate, length-append}
 use lib.Seq.{take_at, drop_at}
 use Rattle.memory.specs.Lists.{put}
 use Rattle.memory.proofs.Lists.{drop-replicate}
@@ -85,12 +85,14 @@ absorbed_after_byte byte salt s t u e f g =
     g ∙ ap (λ (x : Sponge). absorbed x salt) (f ∙ ap (λ (x : Sponge). absorbed x (byte ∷ [])) e) ∙ absorbed-append fresh (byte ∷ []) salt
 
 -- the bytes of two numbers, and of three
-pub two_numbers : (e i a b c d : ℕ) (seed : List ℕ) → a ≡ e % 256 → b ≡ e / 256 % 256 → c ≡ i % 256 → d ≡ i / 256 % 256 →
-    (a ∷ b ∷ c ∷ d ∷ []) ++ seed ≡ enc16 e ++ (enc16 i ++ seed)
+pub two_numbers : (e i : ℕ) (x y seed : List ℕ) → x ≡ enc16 e → y ≡ enc16 i →
+    (get_or x 0 0 ∷ get_or x 1 0 ∷ get_or y 0 0 ∷ get_or y 1 0 ∷ []) ++ seed ≡ enc16 e ++ (enc16 i ++ seed)
 unfolding enc16
-two_numbers e i a b c d seed ea eb ec ed = cc
+two_numbers e i x y seed f g = ap₂ (λ (a b : List ℕ). (get_or a 0 0 ∷ get_or a 1 0 ∷ get_or b 0 0 ∷ get_or b 1 0 ∷ []) ++ seed) f g
 
-pub three_numbers : (e k j a b c d f g : ℕ) (seed : List ℕ) → a ≡ e % 256 → b ≡ e / 256 % 256 → c ≡ k % 256 → d ≡ k / 256 % 256 → f ≡ j % 256 → g ≡ j / 256 % 256 →
-    (a ∷ b ∷ c ∷ d ∷ f ∷ g ∷ []) ++ seed ≡ enc16 e ++ (enc16 k ++ (enc16 j ++ seed))
+pub three_numbers : (e k j : ℕ) (x y z seed : List ℕ) → x ≡ enc16 e → y ≡ enc16 k → z ≡ enc16 j →
+    (get_or x 0 0 ∷ get_or x 1 0 ∷ get_or y 0 0 ∷ get_or y 1 0 ∷ get_or z 0 0 ∷ get_or z 1 0 ∷ []) ++ seed ≡ enc16 e ++ (enc16 k ++ (enc16 j ++ seed))
 unfolding enc16
-three_numbers e k j a b c d f g seed ea eb ec ed ef eg = cc
+three_numbers e k j x y z seed f g h =
+    ap (λ (a : List ℕ). get_or a 0 0 ∷ get_or a 1 0 ∷ ((get_or y 0 0 ∷ get_or y 1 0 ∷ get_or z 0 0 ∷ get_or z 1 0 ∷ []) ++ seed)) f
+    ∙ ap (λ (a : List ℕ). enc16 e ++ a) (two_numbers k j y z seed g h)

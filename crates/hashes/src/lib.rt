@@ -3,12 +3,15 @@
 
 #![tactic(auto)]
 
+mod salted;
+
 ghost use Rattle.std.specs.Prelude.{◌≡◌, ◌∷◌, ◌++◌, ◌+◌, ◌/◌, ◌%◌, ◌≤◌, length, drop};
 ghost use Rattle.memory.specs.Lists.{put};
 ghost use Rattle.sponge.specs.Sponge.{shake256};
 ghost use Rattle.sponge.specs.Steps.{fresh, absorbed};
-ghost use Rattle.hashes.specs.Hashes.{commit_fields, child_fields, tape_fields, first_hash, second_hash};
+ghost use Rattle.hashes.specs.Hashes.{enc16, commit_fields, child_fields, tape_fields, first_hash, second_hash};
 
+pub use salted::Salted;
 use sponge::Sponge;
 
 // The bytes that the uses begin with.
@@ -25,48 +28,66 @@ const TAPE: u8 = 4;
 // Room for the fields of any use that is short: one block of the sponge.
 const BLOCK: usize = 136;
 
-// Commit: fills `out` with the commitment of party i to its seed in repetition e.
-pub fn commit(salt: &[u8], e: usize, i: usize, seed: &[u8], out: &mut [u8])
-    requires { (length salt.now ≤ 64) × (length seed.now ≤ 32) }
-    ensures { out.new ≡ shake256 (commit_fields salt.now e i seed.now) (length out.old) }
-{
-    let numbers = [low(e), high(e), low(i), high(i)];
-    fields(COMMITMENT, salt, &numbers, seed, out);
-}
+impl Salted<'_> {
+    // Commit: fills `out` with the commitment of party i to its seed.
+    pub fn commit(self, i: usize, seed: &[u8], out: &mut [u8])
+        requires { length seed.now ≤ 32 }
+        ensures { out.new ≡ shake256 (commit_fields self.entry.salt.now self.entry.e i seed.now) (length out.old) }
+    {
+        self.of_party(COMMITMENT, i, seed, out);
+    }
 
-// ChildSeeds: fills `out` with the seeds below the parent at level k, position j, of repetition e.
-pub fn children(salt: &[u8], e: usize, k: usize, j: usize, seed: &[u8], out: &mut [u8])
-    requires { (length salt.now ≤ 64) × (length seed.now ≤ 32) }
-    ensures { out.new ≡ shake256 (child_fields salt.now e k j seed.now) (length out.old) }
-{
-    let numbers = [low(e), high(e), low(k), high(k), low(j), high(j)];
-    fields(CHILD_SEEDS, salt, &numbers, seed, out);
-}
+    // ChildSeeds: fills `out` with the seeds below the parent at level k, position j.
+    pub fn children(self, k: usize, j: usize, seed: &[u8], out: &mut [u8])
+        requires { length seed.now ≤ 32 }
+        ensures { out.new ≡ shake256 (child_fields self.entry.salt.now self.entry.e k j seed.now) (length out.old) }
+    {
+        let e = enc16(self.e);
+        let k = enc16(k);
+        let j = enc16(j);
+        let numbers = [e[0], e[1], k[0], k[1], j[0], j[1]];
+        fields(CHILD_SEEDS, self.salt, &numbers, seed, out);
+    }
 
-// ExpandTape: fills `out` with the start of the tape of party i with this seed in repetition e.
-pub fn tape(salt: &[u8], e: usize, i: usize, seed: &[u8], out: &mut [u8])
-    requires { (length salt.now ≤ 64) × (length seed.now ≤ 32) }
-    ensures { out.new ≡ shake256 (tape_fields salt.now e i seed.now) (length out.old) }
-{
-    let numbers = [low(e), high(e), low(i), high(i)];
-    fields(TAPE, salt, &numbers, seed, out);
+    // ExpandTape: fills `out` with the start of the tape of party i with this seed.
+    pub fn tape(self, i: usize, seed: &[u8], out: &mut [u8])
+        requires { length seed.now ≤ 32 }
+        ensures { out.new ≡ shake256 (tape_fields self.entry.salt.now self.entry.e i seed.now) (length out.old) }
+    {
+        self.of_party(TAPE, i, seed, out);
+    }
+
+    // Fills `out` with the hash of party i and its seed in the use that begins with `byte`.
+    fn of_party(self, byte: u8, i: usize, seed: &[u8], out: &mut [u8])
+        requires { length seed.now ≤ 32 }
+        ensures { out.new ≡ shake256 (byte ∷ (self.entry.salt.now ++ (enc16 self.entry.e ++ (enc16 i ++ seed.now)))) (length out.old) }
+    {
+        let e = enc16(self.e);
+        let i = enc16(i);
+        let numbers = [e[0], e[1], i[0], i[1]];
+        fields(byte, self.salt, &numbers, seed, out);
+    }
 }
 
 // H1 as it begins: the message and what the parties committed to are still to be absorbed.
 pub fn first(salt: &[u8]) -> Sponge
     ensures { result ≡ absorbed fresh (first_hash ∷ salt.now) }
 {
-    let byte = [FIRST_HASH];
-    let s = Sponge::new().absorb(&byte);
-    s.absorb(salt)
+    begin(FIRST_HASH, salt)
 }
 
 // H2 as it begins: what the parties answered is still to be absorbed.
 pub fn second(salt: &[u8], h1: &[u8]) -> Sponge
     ensures { result ≡ absorbed fresh (second_hash ∷ (salt.now ++ h1.now)) }
 {
-    let byte = [SECOND_HASH];
-    Sponge::new().absorb(&byte).absorb(salt).absorb(h1)
+    begin(SECOND_HASH, salt).absorb(h1)
+}
+
+// A long hash as it begins, with the byte of its use and the salt.
+fn begin(byte: u8, salt: &[u8]) -> Sponge
+    ensures { result ≡ absorbed fresh (byte ∷ salt.now) }
+{
+    Sponge::new().absorb(&[byte]).absorb(salt)
 }
 
 // Fills `out` with the hash of the fields of a short use, which lie in one block.
@@ -100,15 +121,9 @@ fn section(field: &[u8], at: usize, block: &mut [u8]) -> usize
     e
 }
 
-// The two bytes of a 16-bit number.
-fn low(x: usize) -> u8
-    ensures { result ≡ x % 256 }
+// The two bytes of a number modulo 65536, the least significant first.
+fn enc16(x: usize) -> [u8; 2]
+    ensures { result ≡ enc16 x }
 {
-    (x % 256) as u8
-}
-
-fn high(x: usize) -> u8
-    ensures { result ≡ x / 256 % 256 }
-{
-    (x / 256 % 256) as u8
+    ((x % 65536) as u16).to_le_bytes()
 }

@@ -37,7 +37,7 @@ module _ (A : List ℕ) (h : Words A) where
   unfolding lane
   lane_word x y = h _
 
-  C-word : (x : ℕ) → C A x < 2 ^ 64
+  pub C-word : (x : ℕ) → C A x < 2 ^ 64
   unfolding C
   C-word x =
       xor_lt 64 _ _ (xor_lt 64 _ _ (xor_lt 64 _ _ (xor_lt 64 _ _ (lane_word x 0) (lane_word x 1)) (lane_word x 2)) (lane_word x 3)) (lane_word x 4)

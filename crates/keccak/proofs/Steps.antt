@@ -1,13 +1,14 @@
 -- What the proofs of the code's functions cite: lane 0 of ρ, two rounds as their steps, and a state as its lanes.
 -- Assumes nothing.
-use mathlib.Core.Path.{◌≡◌, refl, sym, ap, ap₂, ◌∙◌}
-use mathlib.Core.List.{List, ◌∷◌}
-use Prim.Native.Nat.{ℕ, suc, ◌+◌, ◌*◌, ◌%◌, ◌^◌, ◌<◌}
-use native.Mathlib.Nat.{mod-eq_of_lt, mul-one, div-eq_of_lt}
+use mathlib.Core.Path.{◌≡◌, refl, sym, ap, ap₂, ◌∙◌, subst}
+use mathlib.Core.List.{List}
+use Prim.Native.Nat.{ℕ, suc, ◌+◌, ◌-◌, ◌*◌, ◌/◌, ◌%◌, ◌^◌, ◌<◌, ◌≤◌}
+use native.Mathlib.Nat.{add-zero, mul-mod_left, div-lt_iff_lt-mul, mod-eq_of_lt, mul-one, div-eq_of_lt}
 use native.Mathlib.Omega.{arith}
 use native.Mathlib.Numerals.{add-one}
 use lib.ListN.{length, get_or}
-use lib.Bits.{bit_xor, xor_zero_r}
+use lib.Bits.{bit_xor, bit_or, bit_and, xor_zero_r, and_shifted, or_disjoint, xor_disjoint}
+use lib.Pow.{pow_pos, pow-add, mod-pow-add}
 use Rattle.memory.specs.Lists.{table}
 use Rattle.memory.proofs.Lists.{table_of}
 use Rattle.keccak.specs.Keccak.{rotated, θ, ρ, π, χ, ι, RC, Rnd, rounds, keccak_f, lane, state}
@@ -15,13 +16,26 @@ use Rattle.keccak.specs.Lanes.{keyed}
 use Rattle.keccak.proofs.Constants.{constants, constant_at}
 
 -- an offset of 0 leaves a lane as it is
-rotated-zero : (a : ℕ) → a < 2 ^ 64 → rotated a 0 ≡ a
+pub rotated-zero : (a : ℕ) → a < 2 ^ 64 → rotated a 0 ≡ a
 unfolding rotated
 rotated-zero a h =
     ap₂ bit_xor (ap (λ (n : ℕ). n % 2 ^ 64) (mul-one a) ∙ mod-eq_of_lt h) (div-eq_of_lt h) ∙ xor_zero_r a
 
-pub first-rotated : {a : ℕ} {l : List ℕ} → a < 2 ^ 64 → a ∷ l ≡ rotated a 0 ∷ l
-first-rotated {a} {l} h = ap (λ (n : ℕ). n ∷ l) (sym (rotated-zero a h))
+-- what the library joins by `or` has no bit twice, so that it is the exclusive or of the standard
+pub rotated-left : (k : ℕ) {a r : ℕ} → k ≤ 64 → a < 2 ^ 64 → r ≡ bit_or (a * 2 ^ k % 2 ^ 64) (a / 2 ^ (64 - k)) → r ≡ rotated a k
+unfolding rotated
+rotated-left k {a} {r} h fits e =
+    let whole : 64 ≡ 64 - k + k = omega arith in
+    let all : 64 ≡ k + (64 - k) = omega arith in
+    let q = a * 2 ^ k / 2 ^ k % 2 ^ (64 - k) in
+    let high : a * 2 ^ k % 2 ^ 64 ≡ q * 2 ^ k =
+    ap (λ (n : ℕ). a * 2 ^ k % 2 ^ n) whole ∙ mod-pow-add (a * 2 ^ k) (64 - k) k
+    ∙ ap (λ (n : ℕ). q * 2 ^ k + n) (mul-mod_left a (2 ^ k)) ∙ add-zero (q * 2 ^ k) in
+    let room : a < 2 ^ k * 2 ^ (64 - k) = subst (λ (n : ℕ). a < n) (ap (λ (n : ℕ). 2 ^ n) all ∙ pow-add 2 k (64 - k)) fits in
+    let low : a / 2 ^ (64 - k) < 2 ^ k = (div-lt_iff_lt-mul (pow_pos (64 - k))).1 room in
+    let none : bit_and (a * 2 ^ k % 2 ^ 64) (a / 2 ^ (64 - k)) ≡ 0 =
+    ap (λ (n : ℕ). bit_and n (a / 2 ^ (64 - k))) high ∙ and_shifted q k (a / 2 ^ (64 - k)) low in
+    e ∙ or_disjoint _ _ none ∙ sym (xor_disjoint _ _ none)
 
 pub rounds-zero : (A : List ℕ) → rounds 0 A ≡ A
 unfolding rounds

@@ -131,7 +131,7 @@ abbrev pub Fitted : List ℕ → Type 0
 Fitted [] = Unit
 Fitted (a ∷ l) = Fits w64 a × Fitted l
 
-fitted_words : (l : List ℕ) → Fitted l → Words l
+pub fitted_words : (l : List ℕ) → Fitted l → Words l
 fitted_words [] t = λ i. pow_pos 64
 fitted_words (a ∷ l) t = below-cons 64 a l t.0.fits (fitted_words l t.1)
 
@@ -191,7 +191,7 @@ unfoldable pub χ-second : List ℕ → List ℕ
     bit_xor (get_or A 23 0) (bit_or (get_or A 24 0) (get_or A 20 0)) ∷
     bit_xor (get_or A 24 0) (bit_and (get_or A 20 0) (get_or A 21 0)) ∷ []
 
-cons : {a b : ℕ} {l m : List ℕ} → a ≡ b → l ≡ m → a ∷ l ≡ b ∷ m
+pub cons : {a b : ℕ} {l m : List ℕ} → a ≡ b → l ≡ m → a ∷ l ≡ b ∷ m
 cons p q = ap₂ (λ (a : ℕ) (l : List ℕ). a ∷ l) p q
 
 pub turned_χ : (A : List ℕ) → Fitted A → turned kept (χ-second A) ≡ χ (turned moved A)

@@ -60,11 +60,8 @@ fn rounds(a: Lanes) -> Lanes
 {
     let constants = table::ROUND_CONSTANTS;
     let mut s = turn_over(a);
-    let mut i = 0;
-    while i < 12 {
-        let t = two_rounds(s, constants[2 * i], constants[2 * i + 1]);
-        s = t;
-        i += 1;
+    for i in 0..12 {
+        s = two_rounds(s, constants[2 * i], constants[2 * i + 1]);
     }
     turn_over(s)
 }
@@ -102,11 +99,11 @@ fn theta(a: Lanes) -> Lanes
     let c2 = a.2 ^ a.7 ^ a.12 ^ a.17 ^ a.22;
     let c3 = a.3 ^ a.8 ^ a.13 ^ a.18 ^ a.23;
     let c4 = a.4 ^ a.9 ^ a.14 ^ a.19 ^ a.24;
-    let d0 = c4 ^ ((c1 << 1) ^ (c1 >> 63));
-    let d1 = c0 ^ ((c2 << 1) ^ (c2 >> 63));
-    let d2 = c1 ^ ((c3 << 1) ^ (c3 >> 63));
-    let d3 = c2 ^ ((c4 << 1) ^ (c4 >> 63));
-    let d4 = c3 ^ ((c0 << 1) ^ (c0 >> 63));
+    let d0 = c4 ^ c1.rotate_left(1);
+    let d1 = c0 ^ c2.rotate_left(1);
+    let d2 = c1 ^ c3.rotate_left(1);
+    let d3 = c2 ^ c4.rotate_left(1);
+    let d4 = c3 ^ c0.rotate_left(1);
     Lanes(
         a.0 ^ d0,
         a.1 ^ d1,
@@ -142,30 +139,30 @@ fn rho_pi(a: Lanes) -> Lanes
 {
     Lanes(
         a.0,
-        (a.6 << 44) ^ (a.6 >> 20),
-        (a.12 << 43) ^ (a.12 >> 21),
-        (a.18 << 21) ^ (a.18 >> 43),
-        (a.24 << 14) ^ (a.24 >> 50),
-        (a.3 << 28) ^ (a.3 >> 36),
-        (a.9 << 20) ^ (a.9 >> 44),
-        (a.10 << 3) ^ (a.10 >> 61),
-        (a.16 << 45) ^ (a.16 >> 19),
-        (a.22 << 61) ^ (a.22 >> 3),
-        (a.1 << 1) ^ (a.1 >> 63),
-        (a.7 << 6) ^ (a.7 >> 58),
-        (a.13 << 25) ^ (a.13 >> 39),
-        (a.19 << 8) ^ (a.19 >> 56),
-        (a.20 << 18) ^ (a.20 >> 46),
-        (a.4 << 27) ^ (a.4 >> 37),
-        (a.5 << 36) ^ (a.5 >> 28),
-        (a.11 << 10) ^ (a.11 >> 54),
-        (a.17 << 15) ^ (a.17 >> 49),
-        (a.23 << 56) ^ (a.23 >> 8),
-        (a.2 << 62) ^ (a.2 >> 2),
-        (a.8 << 55) ^ (a.8 >> 9),
-        (a.14 << 39) ^ (a.14 >> 25),
-        (a.15 << 41) ^ (a.15 >> 23),
-        (a.21 << 2) ^ (a.21 >> 62),
+        a.6.rotate_left(44),
+        a.12.rotate_left(43),
+        a.18.rotate_left(21),
+        a.24.rotate_left(14),
+        a.3.rotate_left(28),
+        a.9.rotate_left(20),
+        a.10.rotate_left(3),
+        a.16.rotate_left(45),
+        a.22.rotate_left(61),
+        a.1.rotate_left(1),
+        a.7.rotate_left(6),
+        a.13.rotate_left(25),
+        a.19.rotate_left(8),
+        a.20.rotate_left(18),
+        a.4.rotate_left(27),
+        a.5.rotate_left(36),
+        a.11.rotate_left(10),
+        a.17.rotate_left(15),
+        a.23.rotate_left(56),
+        a.2.rotate_left(62),
+        a.8.rotate_left(55),
+        a.14.rotate_left(39),
+        a.15.rotate_left(41),
+        a.21.rotate_left(2),
     )
 }
 

@@ -1,17 +1,12 @@
 -- The making of keys: s from its seed, t and y from the circuit, and the bytes of a seed with packed vectors behind it.
 -- Assumes nothing.
-use mathlib.Core.Path.{◌≡◌, refl, sym, ap, ap₂, ◌∙◌, subst}
-use mathlib.Core.List.{List, ◌++◌, append_assoc, append-nil}
+use mathlib.Core.Path.{◌≡◌, sym, ap, ap₂, ◌∙◌, subst}
+use mathlib.Core.List.{List, ◌++◌, append_assoc}
 use Prim.Native.Nat.{ℕ, ◌+◌, ◌-◌, ◌*◌, ◌≤◌}
 use native.Mathlib.Nat.{zero-add}
 use native.Mathlib.Omega.{arith}
-use lib.ListN.{length, take, drop, replicate, length-append, length-drop, length-replicate, drop_of_length-le}
-use lib.Seq.{take_at, length-take-le}
-use Rattle.memory.specs.Lists.{over}
-use Rattle.memory.proofs.Parts.{over_fits, length_over}
-use Rattle.memory.proofs.Stores.{over-whole}
+use lib.ListN.{length, replicate, length-append, length-replicate}
 use Rattle.field.specs.Packing.{pack, packed_length, unpack}
-use Rattle.field.proofs.Packing.{length-pack}
 use Rattle.vectors.specs.Elements.{elements_put}
 use Rattle.vectors.proofs.Writing.{elements-put-next, elements-put_zeros}
 use Rattle.sponge.specs.Sponge.{shake256}
@@ -59,40 +54,6 @@ key_values_lem P seed_f seedS bytes s t y b e h = record { secret = e; target = 
     all = ap (λ (x : List ℕ). eval_circuit x (expand_circuit seed_f P.n P.m)) (sym e) ∙ h (expand_circuit seed_f P.n P.m) held
 
 -- ---- bytes
-
--- a seed copied to the start of `out`, and `new` behind it, to the end
-pub seed_then : (seed out x last new : List ℕ) → x ≡ over seed out → length out ≡ length seed + length new → last ≡ new
-    → take (length seed) x ++ (last ++ drop (length x - length seed) (drop (length seed) x)) ≡ seed ++ new
-seed_then seed out x last new e h l =
-    ap₂ (λ (a b : List ℕ). a ++ b) (ap (take (length seed)) start ∙ take_at seed (drop (length seed) out) (length seed) refl)
-    (ap₂ (λ (a b : List ℕ). a ++ b) l (drop_of_length-le (drop (length seed) x) {i = length x - length seed} (simp length-drop (omega arith))) ∙ append-nil new)
-  where
-    start : x ≡ seed ++ drop (length seed) out
-    start = e ∙ over_fits seed out (omega arith)
-
--- the same of what was packed over the rest
-pub seed_then_packed : (seed t out x last : List ℕ) → x ≡ over seed out → length out ≡ length seed + packed_length (length t)
-    → last ≡ over (pack t) (take (length x - length seed) (drop (length seed) x))
-    → take (length seed) x ++ (last ++ drop (length x - length seed) (drop (length seed) x)) ≡ seed ++ pack t
-seed_then_packed seed t out x last e h l =
-    seed_then seed out x last (pack t) e (h ∙ ap (λ (k : ℕ). length seed + k) (sym (length-pack t)))
-    (l ∙ over-whole (pack t) (take (length x - length seed) (drop (length seed) x)) (length-pack t ∙ sym size))
-  where
-    all : length x ≡ length out
-    all = ap length e ∙ length_over seed out
-
-    size : length (take (length x - length seed) (drop (length seed) x)) ≡ packed_length (length t)
-    size =
-        length-take-le (length x - length seed) (drop (length seed) x) (simp length-drop (omega arith))
-        ∙ (let a = all in let g : length x - length seed ≡ packed_length (length t) = omega arith in g)
-
--- the same of three vectors packed together
-pub seed_then_three : (seed s t y out x last : List ℕ) → x ≡ over seed out → length out ≡ length seed + packed_length (length s + length t + length y) → last ≡ pack (s ++ (t ++ y))
-    → take (length seed) x ++ (last ++ drop (length x - length seed) (drop (length seed) x)) ≡ seed ++ pack (s ++ (t ++ y))
-seed_then_three seed s t y out x last e h l = seed_then seed out x last (pack (s ++ (t ++ y))) e (h ∙ ap (λ (k : ℕ). length seed + k) (sym size)) l
-  where
-    size : length (pack (s ++ (t ++ y))) ≡ packed_length (length s + length t + length y)
-    size = length-pack (s ++ (t ++ y)) ∙ ap packed_length (let c = length-append t y in length-append s (t ++ y) ∙ (let i : length s + length (t ++ y) ≡ length s + length t + length y = omega arith in i))
 
 -- three vectors written one behind the other over zeros
 pub three_packed : (s t y zeros one two three : List ℕ) (k : ℕ) → zeros ≡ replicate k 0 → k ≡ packed_length (length s + length t + length y)

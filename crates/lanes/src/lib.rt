@@ -4,7 +4,7 @@
 #![tactic(auto)]
 
 ghost use Rattle.std.specs.Prelude.{◌≡◌, ◌+◌, ◌≤◌, ◌<◌, length};
-ghost use Rattle.memory.specs.Lists.{over, put};
+ghost use Rattle.memory.specs.Lists.{put};
 ghost use Rattle.lanes.specs.Lanes.{Times, Multiples, WordAt, word_bytes};
 
 // Each lane times the element e.
@@ -14,7 +14,7 @@ pub fn times(w: u64, e: u8) -> u64
     let w2 = doubled(w);
     let w4 = doubled(w2);
     let w8 = doubled(w4);
-    let n = wide(e);
+    let n = u64::from(e);
     (w * (n % 2)) ^ (w2 * (n / 2 % 2)) ^ (w4 * (n / 4 % 2)) ^ (w8 * (n / 8 % 2))
 }
 
@@ -46,7 +46,7 @@ pub fn multiples(w: u64, t: &mut [u64])
         w2 ^ w12,
         w3 ^ w12,
     ];
-    copy_words(&all, t);
+    t.copy_from_slice(&all);
 }
 
 // Each lane times x, the element 2.
@@ -56,26 +56,14 @@ fn doubled(w: u64) -> u64
     ((w & 0x7777777777777777) * 2) ^ (((w >> 3) & 0x1111111111111111) * 3)
 }
 
-// A byte as a number of 64 bits.
-fn wide(b: u8) -> u64
-    ensures { (result ≡ b) × (result < 256) }
-{
-    b as u64
-}
-
 // The word whose lanes are the sixteen elements in the eight bytes from the place `at` on.
 pub fn word_at(bytes: &[u8], at: usize) -> u64
     requires { at + 8 ≤ length bytes.now }
     ensures { WordAt bytes.now at result }
 {
-    wide(bytes[at])
-        | (wide(bytes[at + 1]) << 8)
-        | (wide(bytes[at + 2]) << 16)
-        | (wide(bytes[at + 3]) << 24)
-        | (wide(bytes[at + 4]) << 32)
-        | (wide(bytes[at + 5]) << 40)
-        | (wide(bytes[at + 6]) << 48)
-        | (wide(bytes[at + 7]) << 56)
+    let mut word = [0; 8];
+    word.copy_from_slice(&bytes[at..at + 8]);
+    u64::from_le_bytes(word)
 }
 
 // Writes the sixteen elements of a word to the eight bytes from the place `at` on.
@@ -83,24 +71,5 @@ pub fn put_word(bytes: &mut [u8], at: usize, w: u64)
     requires { at + 8 ≤ length bytes.old }
     ensures { bytes.new ≡ put bytes.old at (word_bytes w) }
 {
-    bytes[at] = (w % 256) as u8;
-    bytes[at + 1] = ((w >> 8) % 256) as u8;
-    bytes[at + 2] = ((w >> 16) % 256) as u8;
-    bytes[at + 3] = ((w >> 24) % 256) as u8;
-    bytes[at + 4] = ((w >> 32) % 256) as u8;
-    bytes[at + 5] = ((w >> 40) % 256) as u8;
-    bytes[at + 6] = ((w >> 48) % 256) as u8;
-    bytes[at + 7] = ((w >> 56) % 256) as u8;
-}
-
-// Writes `src` over the start of `dst`.
-pub fn copy_words(src: &[u64], dst: &mut [u64])
-    requires { length src.now ≤ length dst.old }
-    ensures { dst.new ≡ over src.now dst.old }
-{
-    let mut i = 0;
-    while i < src.len() {
-        dst[i] = src[i];
-        i += 1;
-    }
+    bytes[at..at + 8].copy_from_slice(&w.to_le_bytes());
 }

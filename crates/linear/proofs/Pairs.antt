@@ -2,62 +2,40 @@
 use mathlib.Core.Path.{◌≡◌, sym, ap, ap₂, ◌∙◌, subst}
 use mathlib.Core.List.{List, ◌++◌}
 use Prim.Native.Nat.{ℕ, ◌+◌, ◌-◌, ◌*◌, ◌/◌, ◌%◌, ◌≤◌, ◌<◌}
-use native.Mathlib.Nat.{zero-add}
 use native.Mathlib.Decide.{dec_lt}
 use native.Mathlib.Omega.{arith}
 use lib.Bits.{bit_xor, xor_zero_r}
-use lib.ListN.{length, get_or, take, drop, set, length-drop}
-use lib.Seq.{length-take-le, get_or-take, get_or-drop, get_or-set_same, get_or-set_other}
-use Rattle.memory.specs.Lists.{put}
+use lib.ListN.{length, get_or, take, drop, length-drop, get_or-append}
+use lib.Seq.{length-take-le, get_or-take, get_or-drop, get_or-append_right}
 use Rattle.memory.proofs.Bits.{xor_assoc}
-use Rattle.memory.proofs.Entries.{part-lent}
 use Rattle.memory.proofs.Every.{same1}
-use Rattle.memory.proofs.Parts.{get_or-put_in, lent-put}
 use Rattle.field.specs.Field.{mul}
 use Rattle.field.proofs.Laws.{mul-xor_l, mul-zero_l}
-use Rattle.lanes.specs.Lanes.{lane, Multiples}
-use Rattle.lanes.proofs.Laws.{lane_xor}
+use Rattle.linear.specs.Word.{View, Adds, MultiplesOf}
 use Rattle.linear.specs.Rows.{PairValue, PairsOf, PairsFrom, Spread}
 
+-- ---- words of which a part was lent: ys came back in the place of the k words from the place a on
+
+module _ {W : Type 0} (a k : ℕ) (t ys : List W) (d : W) (same : length ys ≡ length (take k (drop a t))) (fits : a + k ≤ length t) where
+  size : length ys ≡ k
+  size = same ∙ length-take-le k (drop a t) (simp length-drop (omega arith))
+
+  front : length (take a t) ≡ a
+  front = length-take-le a t (omega arith)
+
+  lent_before : (i : ℕ) → i < a → get_or (take a t ++ (ys ++ drop k (drop a t))) i d ≡ get_or t i d
+  lent_before i h = get_or-append (take a t) (ys ++ drop k (drop a t)) d i (let e = front in omega arith) ∙ get_or-take a t i d h
+
+  lent_in : (i : ℕ) → i < k → get_or (take a t ++ (ys ++ drop k (drop a t))) (a + i) d ≡ get_or ys i d
+  lent_in i h =
+      let e = front in
+      let s = size in
+      let p : a + i - length (take a t) ≡ i = omega arith in
+      get_or-append_right (take a t) (ys ++ drop k (drop a t)) (a + i) d (omega arith)
+      ∙ ap (λ (j : ℕ). get_or (ys ++ drop k (drop a t)) j d) p
+      ∙ get_or-append ys (drop k (drop a t)) d i (omega arith)
+
 -- ---- the sums of a pair, twice as many at each step
-
--- the sums for the bytes below n
-abbrev pub PairsBelow : ℕ → ℕ → ℕ → List ℕ → Type 0
-PairsBelow n u v t = (b : ℕ) → b < n → PairValue u v b (get_or t b 0)
-
--- where the high half is 0: a multiple of the first word
-pub pair_low : (u v : ℕ) (low : List ℕ) → Multiples u low → (b : ℕ) → b < 16 → PairValue u v b (get_or low b 0)
-unfolding Multiples PairValue
-pair_low u v low m b h q hq =
-    let first : b ≡ b % 16 = omega arith in
-    let second : 0 ≡ b / 16 = omega arith in
-    m b q h hq
-    ∙ sym (xor_zero_r (mul b (lane q u)))
-    ∙ ap₂ bit_xor (ap (λ (c : ℕ). mul c (lane q u)) first) (sym (mul-zero_l (lane q v)) ∙ ap (λ (c : ℕ). mul c (lane q v)) second)
-
--- these multiples, as they are lent
-pub pairs_first : (u v : ℕ) (out ys : List ℕ) → Multiples u ys → length out ≡ 256 → length ys ≡ length (take (16 - 0) (drop 0 out))
-    → PairsBelow 16 u v (take 0 out ++ (ys ++ drop (16 - 0) (drop 0 out)))
-pairs_first u v out ys m full kept b h =
-    let size : length ys ≡ 16 - 0 = kept ∙ length-take-le (16 - 0) (drop 0 out) (simp length-drop (omega arith)) in
-    subst (PairValue u v b)
-    (sym (ap (λ (t : List ℕ). get_or t b 0) (lent-put out 0 16 ys size)
-    ∙ ap (λ (k : ℕ). get_or (put out 0 ys) k 0) (sym (zero-add b))
-    ∙ get_or-put_in out 0 ys (omega arith) b (omega arith)))
-    (pair_low u v ys m b h)
-
--- one word more is spread
-pub spread_more : (n w k : ℕ) (old cur : List ℕ) → n + k < length cur → get_or cur k 0 ≡ get_or old k 0 → ((j : ℕ) → j < k → get_or cur (n + j) 0 ≡ bit_xor (get_or old j 0) w)
-    → (j : ℕ) → j < k + 1 → get_or (set cur (n + k) (bit_xor (get_or cur k 0) w)) (n + j) 0 ≡ bit_xor (get_or old j 0) w
-spread_more n w k old cur h e done j g =
-    let v : ℕ = bit_xor (get_or cur k 0) w in
-    elim (dec_lt j k) as (λ d. get_or (set cur (n + k) v) (n + j) 0 ≡ bit_xor (get_or old j 0) w) [
-      | yes y ↦ get_or-set_other cur (n + k) (n + j) v 0 (λ z. omega arith) ∙ done j y
-      | no y ↦
-          (let z : k ≡ j = omega arith in
-          subst (λ (i : ℕ). get_or (set cur (n + k) v) (n + i) 0 ≡ bit_xor (get_or old i 0) w) z
-          (get_or-set_same cur (n + k) v 0 h ∙ ap (λ (x : ℕ). bit_xor x w) e))
-    ]
 
 -- h is one bit above every number below it
 abbrev pub Above : ℕ → Type 0
@@ -75,48 +53,91 @@ above_4 = same1 4 (λ j. 4 + j) (λ j. bit_xor j 4) tt
 pub above_8 : Above 8
 above_8 = same1 8 (λ j. 8 + j) (λ j. bit_xor j 8) tt
 
-module _ (h u v w : ℕ) (high old new : List ℕ) (above : Above h) (small : h < 16) (m : Multiples v high) (word : w ≡ get_or high h 0) (spread : Spread (h * 16) w old new) where
-  spread_value : (k : ℕ) → k < h * 16 → PairValue u v k (get_or old k 0) → PairValue u v (h * 16 + k) (get_or new (h * 16 + k) 0)
-  unfolding Multiples PairValue
-  spread_value k g value q hq =
-      let low : k % 16 ≡ (h * 16 + k) % 16 = omega arith in
-      let up : h + k / 16 ≡ (h * 16 + k) / 16 = omega arith in
-      ap (lane q) (spread.added k g)
-      ∙ lane_xor q (get_or old k 0) w
-      ∙ ap₂ bit_xor (value q hq) (ap (lane q) word ∙ m h q small hq)
-      ∙ xor_assoc (mul (k % 16) (lane q u)) (mul (k / 16) (lane q v)) (mul h (lane q v))
-      ∙ ap₂ bit_xor (ap (λ (c : ℕ). mul c (lane q u)) low)
-      (sym (mul-xor_l (k / 16) h (lane q v)) ∙ ap (λ (c : ℕ). mul c (lane q v)) (sym (above (k / 16) (omega arith)) ∙ up))
+module _ {W : Type 0} (v : View W) where
+  -- the sums for the bytes below n
+  abbrev pub PairsBelow : ℕ → W → W → List W → Type 0
+  PairsBelow n low high t = (b : ℕ) → b < n → PairValue v low high b (get_or t b v.zero)
 
-  pub pairs_spread : PairsBelow (h * 16) u v old → PairsBelow (h * 16 + h * 16) u v new
-  pairs_spread done b g =
-      elim (dec_lt b (h * 16)) as (λ d. PairValue u v b (get_or new b 0)) [
-        | yes y ↦ subst (PairValue u v b) (sym (spread.before b y)) (done b y)
+  -- where the high half is 0: a multiple of the first word
+  pair_low : (low high : W) (t : List W) → MultiplesOf v low t → PairsBelow 16 low high t
+  unfolding MultiplesOf PairValue
+  pair_low low high t m b h q hq =
+      let first : b ≡ b % 16 = omega arith in
+      let second : 0 ≡ b / 16 = omega arith in
+      m b q h hq
+      ∙ sym (xor_zero_r (mul b (v.lane q low)))
+      ∙ ap₂ bit_xor (ap (λ (c : ℕ). mul c (v.lane q low)) first)
+      (sym (mul-zero_l (v.lane q high)) ∙ ap (λ (c : ℕ). mul c (v.lane q high)) second)
+
+  -- these multiples, as they are lent
+  pub pairs_first : (low high : W) (out ys : List W) → MultiplesOf v low ys → length out ≡ 256 → length ys ≡ length (take (16 - 0) (drop 0 out))
+      → PairsBelow 16 low high (take 0 out ++ (ys ++ drop (16 - 0) (drop 0 out)))
+  pairs_first low high out ys m full kept b h =
+      let e = size 0 16 out ys v.zero kept (omega arith) in
+      subst (PairValue v low high b) (sym (get_or-append ys (drop (16 - 0) (drop 0 out)) v.zero b (omega arith))) (pair_low low high ys m b h)
+
+  module _ (adds : Adds v) (h : ℕ) (low high w : W) (multiples old new : List W) (above : Above h) (small : h < 16)
+      (m : MultiplesOf v high multiples) (word : w ≡ get_or multiples h v.zero) (spread : Spread v (h * 16) w old new) where
+    spread_value : (k : ℕ) → k < h * 16 → PairValue v low high k (get_or old k v.zero) → PairValue v low high (h * 16 + k) (get_or new (h * 16 + k) v.zero)
+    unfolding MultiplesOf PairValue
+    spread_value k g value q hq =
+        let first : k % 16 ≡ (h * 16 + k) % 16 = omega arith in
+        let second : h + k / 16 ≡ (h * 16 + k) / 16 = omega arith in
+        ap (v.lane q) (spread.added k g)
+        ∙ adds q (get_or old k v.zero) w
+        ∙ ap₂ bit_xor (value q hq) (ap (v.lane q) word ∙ m h q small hq)
+        ∙ xor_assoc (mul (k % 16) (v.lane q low)) (mul (k / 16) (v.lane q high)) (mul h (v.lane q high))
+        ∙ ap₂ bit_xor (ap (λ (c : ℕ). mul c (v.lane q low)) first)
+        (sym (mul-xor_l (k / 16) h (v.lane q high)) ∙ ap (λ (c : ℕ). mul c (v.lane q high)) (sym (above (k / 16) (omega arith)) ∙ second))
+
+    pub pairs_spread : PairsBelow (h * 16) low high old → PairsBelow (h * 16 + h * 16) low high new
+    pairs_spread done b g =
+        elim (dec_lt b (h * 16)) as (λ d. PairValue v low high b (get_or new b v.zero)) [
+          | yes y ↦ subst (PairValue v low high b) (sym (spread.before b y)) (done b y)
+          | no y ↦
+              (let e : h * 16 + (b - h * 16) ≡ b = omega arith in
+              subst (λ (k : ℕ). PairValue v low high k (get_or new k v.zero)) e (spread_value (b - h * 16) (omega arith) (done (b - h * 16) (omega arith))))
+        ]
+
+  -- ---- the sums of many pairs
+
+  -- the sums of one pair of words more, as they are lent
+  pub pairs_lent : (s t ys : List W) (a c : ℕ) (low high : W) → PairsFrom v s a c t
+      → low ≡ get_or s (a + c * 2) v.zero → high ≡ get_or s (a + c * 2 + 1) v.zero → PairsOf v low high ys
+      → length ys ≡ length (take (c * 256 + 256 - c * 256) (drop (c * 256) t)) → c * 256 + 256 ≤ length t
+      → PairsFrom v s a (c + 1) (take (c * 256) t ++ (ys ++ drop (c * 256 + 256 - c * 256) (drop (c * 256) t)))
+  unfolding PairsFrom PairsOf
+  pairs_lent s t ys a c low high done el eh next kept fits d b hd hb =
+      let k : ℕ = c * 256 + 256 - c * 256 in
+      let new : List W = take (c * 256) t ++ (ys ++ drop k (drop (c * 256) t)) in
+      elim (dec_lt d c) as (λ p. PairValue v (get_or s (a + d * 2) v.zero) (get_or s (a + d * 2 + 1) v.zero) b (get_or new (d * 256 + b) v.zero)) [
+        | yes y ↦
+            subst (PairValue v (get_or s (a + d * 2) v.zero) (get_or s (a + d * 2 + 1) v.zero) b)
+            (sym (lent_before (c * 256) k t ys v.zero kept (omega arith) (d * 256 + b) (omega arith))) (done d b y hb)
         | no y ↦
-            (let e : h * 16 + (b - h * 16) ≡ b = omega arith in
-            subst (λ (k : ℕ). PairValue u v k (get_or new k 0)) e (spread_value (b - h * 16) (omega arith) (done (b - h * 16) (omega arith))))
+            (let e : c ≡ d = omega arith in
+            subst (λ (i : ℕ). PairValue v (get_or s (a + i * 2) v.zero) (get_or s (a + i * 2 + 1) v.zero) b (get_or new (i * 256 + b) v.zero)) e
+            (subst (PairValue v (get_or s (a + c * 2) v.zero) (get_or s (a + c * 2 + 1) v.zero) b)
+            (sym (lent_in (c * 256) k t ys v.zero kept (omega arith) b (omega arith)))
+            (subst (λ (i : W). PairValue v i (get_or s (a + c * 2 + 1) v.zero) b (get_or ys b v.zero)) el
+            (subst (λ (i : W). PairValue v low i b (get_or ys b v.zero)) eh (next b hb)))))
       ]
 
--- ---- the sums of many pairs
+  pub pairs_none : (s t : List W) (a : ℕ) → PairsFrom v s a 0 t
+  unfolding PairsFrom
+  pairs_none s t a c b hc hb = absurd (omega arith)
 
--- the sums of one pair of words more
-pub pairs_lent : (s t ys : List ℕ) (a c u v : ℕ) → PairsFrom s a c t → u ≡ get_or s (a + c * 2) 0 → v ≡ get_or s (a + c * 2 + 1) 0 → PairsOf u v ys
-    → length ys ≡ length (take (c * 256 + 256 - c * 256) (drop (c * 256) t)) → c * 256 + 256 ≤ length t
-    → PairsFrom s a (c + 1) (take (c * 256) t ++ (ys ++ drop (c * 256 + 256 - c * 256) (drop (c * 256) t)))
-unfolding PairsFrom PairsOf
-pairs_lent s t ys a c u v done eu ev next =
-    part-lent (λ d b x. PairValue (get_or s (a + d * 2) 0) (get_or s (a + d * 2 + 1) 0) b x) 256 c t ys done
-    (λ b h. subst (λ (i : ℕ). PairValue i (get_or s (a + c * 2 + 1) 0) b (get_or ys b 0)) eu (subst (λ (i : ℕ). PairValue u i b (get_or ys b 0)) ev (next b h)))
-
-pub pairs_none : (s t : List ℕ) (a : ℕ) → PairsFrom s a 0 t
-unfolding PairsFrom
-pairs_none s t a c b hc hb = absurd (omega arith)
-
--- the sums of one pair, as they are lent
-pub pairs_part : (s t : List ℕ) (a n i : ℕ) → PairsFrom s a n t → i < n
-    → PairsOf (get_or s (a + i * 2) 0) (get_or s (a + i * 2 + 1) 0) (take (i * 256 + 256 - i * 256) (drop (i * 256) t))
-unfolding PairsFrom PairsOf
-pairs_part s t a n i pairs inside b h =
-    subst (PairValue (get_or s (a + i * 2) 0) (get_or s (a + i * 2 + 1) 0) b)
-    (sym (get_or-take (i * 256 + 256 - i * 256) (drop (i * 256) t) b 0 (omega arith) ∙ get_or-drop (i * 256) t b 0))
-    (pairs i b inside h)
+  -- the sums of one pair, as they are lent
+  pub pairs_part : (s t : List W) (a n i : ℕ) → PairsFrom v s a n t → i < n
+      → PairsFrom v s (a + i * 2) 1 (take (i * 256 + 256 - i * 256) (drop (i * 256) t))
+  unfolding PairsFrom
+  pairs_part s t a n i pairs inside c b hc hb =
+      let e : 0 ≡ c = omega arith in
+      let x : i * 256 + (c * 256 + b) ≡ i * 256 + b = omega arith in
+      let p : a + i * 2 ≡ a + i * 2 + c * 2 = omega arith in
+      subst (λ (j : ℕ). PairValue v (get_or s j v.zero) (get_or s (j + 1) v.zero) b (get_or (take (i * 256 + 256 - i * 256) (drop (i * 256) t)) (c * 256 + b) v.zero)) p
+      (subst (PairValue v (get_or s (a + i * 2) v.zero) (get_or s (a + i * 2 + 1) v.zero) b)
+      (sym (get_or-take (i * 256 + 256 - i * 256) (drop (i * 256) t) (c * 256 + b) v.zero (omega arith)
+      ∙ get_or-drop (i * 256) t (c * 256 + b) v.zero
+      ∙ ap (λ (j : ℕ). get_or t j v.zero) x))
+      (pairs i b inside hb))

@@ -1,3 +1,5 @@
 pub mod Forms
 pub mod Rows
-pub mod Two
+pub mod Tables
+pub mod Word
+pub mod WordLaws

@@ -4,20 +4,40 @@
 #![tactic(auto)]
 
 mod rows;
-mod two;
-mod two_sums;
+mod sums;
+mod tables;
+mod word;
 
-ghost use Rattle.std.specs.Prelude.{◌≡◌, ℕ, ◌≤◌, List, length, replicate};
+ghost use Rattle.std.specs.Prelude.{◌≡◌, ℕ, ◌≤◌, List, length};
 ghost use Rattle.field.specs.Vectors.{◌!◌};
 ghost use Rattle.lanes.specs.Lanes.{Holds};
 ghost use Rattle.forms.specs.Circuit.{Circuit};
 ghost use Rattle.forms.specs.Room.{circuit_length, HoldsCircuit};
 ghost use Rattle.linear.specs.Forms.{HoldsForms};
 
-// Two words for each of at most 121 equations.
-const TWICE: usize = 242;
+use crate::tables::Tables;
+use crate::word::Pair;
+
+// The most variables that a circuit has.
+pub const VARIABLES: usize = 118;
+
+// The most equations.
+pub const EQUATIONS: usize = 121;
+
+// The bytes of a row in a block of columns, for one vector of words.
+const BLOCK: usize = 8;
+
+// The sums that a block's bytes pick from, 256 for each.
+const SUMS: usize = 2048;
+
+// The bytes of a row in a block of columns, for two vectors at once.
+const PAIR_BLOCK: usize = 4;
+
+// The sums that a block's bytes pick from, 256 pairs for each.
+const PAIR_SUMS: usize = 1024;
 
 // Algorithm 9 without constants and t: the forms A1, A2 and A0 of each equation at the shares of sixteen parties, to x, y and z.
+// Stays: what may not change: docs/STATEMENTS.md names this function, and its callers pass the circuit beside its sizes, and the three results apart.
 pub fn linear_forms(
     circuit: &[u8],
     n: usize,
@@ -30,16 +50,16 @@ pub fn linear_forms(
     requires { (n ≤ 118) × (m ≤ 121) × (length circuit.now ≡ circuit_length n m) × (length shares.now ≡ n) × (length x.old ≡ m) × (length y.old ≡ m) × (length z.old ≡ m) }
     ensures { (f : Circuit) (share : ℕ → List ℕ) → HoldsCircuit n m f circuit.now → Holds (λ q i. share q ! i) shares.now → HoldsForms f share x.new y.new z.new }
 {
-    let width = n / 2 + n % 2;
-    let first = m / 2 + m % 2;
-    let size = first + m * width;
-    clear(x);
-    clear(y);
-    clear(z);
-    rows::add_tables(circuit, first, size, width, shares, x, y, z);
+    let tables = Tables::of(circuit, n, m);
+    let mut sums = [0u64; SUMS];
+    x.fill(0);
+    y.fill(0);
+    z.fill(0);
+    rows::add_tables::<u64, BLOCK>(&tables, shares, &mut sums, x, y, z);
 }
 
 // The same at the shares in two vectors of words: the forms at the shares to x, y and z, at the others to x2, y2 and z2.
+// Stays: what may not change: docs/STATEMENTS.md names this function, and its callers pass the circuit beside its sizes, and the six results apart.
 pub fn linear_two(
     circuit: &[u8],
     n: usize,
@@ -56,27 +76,19 @@ pub fn linear_two(
     requires { (n ≤ 118) × (m ≤ 121) × (length circuit.now ≡ circuit_length n m) × (length shares.now ≡ n) × (length others.now ≡ n) × (length x.old ≡ m) × (length y.old ≡ m) × (length z.old ≡ m) × (length x2.old ≡ m) × (length y2.old ≡ m) × (length z2.old ≡ m) }
     ensures { ((f : Circuit) (share : ℕ → List ℕ) → HoldsCircuit n m f circuit.now → Holds (λ q i. share q ! i) shares.now → HoldsForms f share x.new y.new z.new) × ((f : Circuit) (share : ℕ → List ℕ) → HoldsCircuit n m f circuit.now → Holds (λ q i. share q ! i) others.now → HoldsForms f share x2.new y2.new z2.new) }
 {
-    let width = n / 2 + n % 2;
-    let first = m / 2 + m % 2;
-    let size = first + m * width;
-    let mut xs = [0u64; TWICE];
-    let mut ys = [0u64; TWICE];
-    let mut zs = [0u64; TWICE];
-    two::add_tables(
-        circuit, first, size, width, shares, others, m, &mut xs, &mut ys, &mut zs,
-    );
-    two::part(&xs, x, x2);
-    two::part(&ys, y, y2);
-    two::part(&zs, z, z2);
-}
-
-// Sets every word to 0.
-fn clear(words: &mut [u64])
-    ensures { words.new ≡ replicate (length words.old) 0 }
-{
-    let mut i = 0;
-    while i < words.len() {
-        words[i] = 0;
-        i += 1;
-    }
+    let tables = Tables::of(circuit, n, m);
+    let mut words = [Pair::ZERO; VARIABLES];
+    let mut sums = [Pair::ZERO; PAIR_SUMS];
+    let mut xs = [Pair::ZERO; EQUATIONS];
+    let mut ys = [Pair::ZERO; EQUATIONS];
+    let mut zs = [Pair::ZERO; EQUATIONS];
+    let words = &mut words[0..n];
+    let xs = &mut xs[0..m];
+    let ys = &mut ys[0..m];
+    let zs = &mut zs[0..m];
+    word::join(shares, others, words);
+    rows::add_tables::<Pair, PAIR_BLOCK>(&tables, words, &mut sums, xs, ys, zs);
+    word::part(xs, x, x2);
+    word::part(ys, y, y2);
+    word::part(zs, z, z2);
 }

@@ -1,200 +1,74 @@
-// Rows of packed coefficients times words of lanes: the value of many linear forms at the vectors of sixteen parties at once.
+// Rows of packed coefficients times words of lanes: the value of many linear forms at the vectors in all lanes at once.
 // A public byte of two coefficients picks one of the 256 sums of two words' multiples; no lane picks a branch or an address.
-ghost use Rattle.std.specs.Prelude.{◌≡◌, List, ℕ, ◌+◌, ◌-◌, ◌*◌, ◌≤◌, ◌<◌, length, get_or};
-ghost use Rattle.linear.specs.Rows.{PairsOf, PairsFrom, Spread, RowAdded, RowsAdded};
+ghost use Rattle.std.specs.Prelude.{◌≡◌, List, ℕ, ◌+◌, ◌*◌, ◌≤◌, ◌<◌, length};
+ghost use Rattle.linear.specs.Rows.{PairsFrom, RowAdded, RowsAdded};
 
-// The bytes of a row in a block of columns.
-const BLOCK: usize = 8;
+use crate::sums;
+use crate::tables::{Table, Tables};
+use crate::word::Word;
 
-// The sums that a block's bytes pick from, 256 for each byte of a row.
-const SUMS: usize = 2048;
-
-// Adds to each word of x, y and z its row of the first, second and third table times the words. The tables' rows stand at `first` and `size` bytes apart.
-pub fn add_tables(
-    circuit: &[u8],
-    first: usize,
-    size: usize,
-    width: usize,
-    words: &[u64],
-    x: &mut [u64],
-    y: &mut [u64],
-    z: &mut [u64],
+// Adds to each word of x, y and z its row of the first, second and third table times the words, by blocks of B bytes of each row.
+pub fn add_tables<W: Word, const B: usize>(
+    tables: &Tables,
+    words: &[W],
+    sums: &mut [W],
+    x: &mut [W],
+    y: &mut [W],
+    z: &mut [W],
 )
-    requires { (first + (size + size) + length x.old * width ≤ length circuit.now) × (length y.old ≡ length x.old) × (length z.old ≡ length x.old) × (width < 4096) }
-    ensures { (RowsAdded circuit.now first width words.now 0 (width * 2) x.old x.new) × (RowsAdded circuit.now (first + size) width words.now 0 (width * 2) y.old y.new) × (RowsAdded circuit.now (first + (size + size)) width words.now 0 (width * 2) z.old z.new) }
+    requires { (length x.old ≡ tables.now.first.rows) × (length y.old ≡ tables.now.second.rows) × (length z.old ≡ tables.now.third.rows) × (0 < B) × (B * 256 ≤ length sums.old) }
+    ensures { (RowsAdded W.view tables.now.first.bytes.now 0 tables.now.first.width words.now 0 (tables.now.first.width * 2) x.old x.new) × (RowsAdded W.view tables.now.second.bytes.now 0 tables.now.second.width words.now 0 (tables.now.second.width * 2) y.old y.new) × (RowsAdded W.view tables.now.third.bytes.now 0 tables.now.third.width words.now 0 (tables.now.third.width * 2) z.old z.new) }
 {
-    let mut pairs = [0u64; SUMS];
-    let mut at = 0;
-    while at < width {
-        let count = memory::lesser(BLOCK, width - at);
-        add_block(
-            circuit,
-            first + at,
-            size,
-            width,
-            words,
-            at,
-            count,
-            &mut pairs,
-            x,
-            y,
-            z,
-        );
-        at += count;
+    let width = tables.first.width;
+    for block in 0..width.div_ceil(B) {
+        let at = block * B;
+        let count = B.min(width - at);
+        sums::fill(words, at * 2, count, sums);
+        add_rows::<W, B>(tables.first, at, count, sums, x);
+        add_rows::<W, B>(tables.second, at, count, sums, y);
+        add_rows::<W, B>(tables.third, at, count, sums, z);
     }
 }
 
-// Adds `count` bytes of each row, from the byte `at` of the row on: `start` is where they stand in the first table.
-fn add_block(
-    circuit: &[u8],
-    start: usize,
-    size: usize,
-    width: usize,
-    words: &[u64],
+// Adds to each word of `out` the value of `count` bytes of its row, from the byte `at` of the row on: of a whole block at once, else byte by byte.
+fn add_rows<W: Word, const B: usize>(
+    table: Table,
     at: usize,
     count: usize,
-    pairs: &mut [u64],
-    x: &mut [u64],
-    y: &mut [u64],
-    z: &mut [u64],
+    sums: &[W],
+    out: &mut [W],
 )
-    requires { (start + (size + size) + length x.old * width ≤ length circuit.now + at) × (at + count ≤ width) × (width < 4096) × (length y.old ≡ length x.old) × (length z.old ≡ length x.old) × (count * 256 ≤ length pairs.old) }
-    ensures { (RowsAdded circuit.now start width words.now (at * 2) (count * 2) x.old x.new) × (RowsAdded circuit.now (start + size) width words.now (at * 2) (count * 2) y.old y.new) × (RowsAdded circuit.now (start + (size + size)) width words.now (at * 2) (count * 2) z.old z.new) }
+    requires { (length out.old ≡ table.rows) × (at + count ≤ table.width) × (count * 256 ≤ length sums.now) }
+    ensures { (s : List W) (a : ℕ) → PairsFrom W.view s a count sums.now → RowsAdded W.view table.entry.bytes.now at table.entry.width s a (count * 2) out.old out.new }
 {
-    fill(words, at * 2, count, pairs);
-    add_rows(circuit, start, width, count, pairs, x);
-    add_rows(circuit, start + size, width, count, pairs, y);
-    add_rows(circuit, start + (size + size), width, count, pairs, z);
-}
-
-// The sums for `count` pairs of words from the place `at` on; past the end of the words stands 0.
-fn fill(words: &[u64], at: usize, count: usize, pairs: &mut [u64])
-    requires { (count * 256 ≤ length pairs.old) × (at < 8192) }
-    ensures { PairsFrom words.now at count pairs.new }
-{
-    let mut c = 0;
-    while c < count {
-        let a = c * 256;
-        let e = a + 256;
-        let i = at + c * 2;
-        let j = i + 1;
-        pair(
-            word_or_zero(words, i),
-            word_or_zero(words, j),
-            &mut pairs[a..e],
-        );
-        c += 1;
-    }
-}
-
-// The word at a place, 0 past the end.
-pub fn word_or_zero(words: &[u64], i: usize) -> u64
-    ensures { result ≡ get_or words.now i 0 }
-{
-    if i < words.len() { words[i] } else { 0 }
-}
-
-// The sums of the multiples of two words, for every byte: those of `u` alone, then twice as many at each step.
-fn pair(u: u64, v: u64, out: &mut [u64])
-    requires { length out.old ≡ 256 }
-    ensures { PairsOf u v out.new }
-{
-    let mut high = [0u64; 16];
-    lanes::multiples(v, &mut high);
-    lanes::multiples(u, &mut out[0..16]);
-    spread(out, 16, high[1]);
-    spread(out, 32, high[2]);
-    spread(out, 64, high[4]);
-    spread(out, 128, high[8]);
-}
-
-// The sums of each of the first n words and one word, written behind these.
-fn spread(out: &mut [u64], n: usize, w: u64)
-    requires { n + n ≤ length out.old }
-    ensures { Spread n w out.old out.new }
-{
-    let mut k = 0;
-    while k < n {
-        out[n + k] = out[k] ^ w;
-        k += 1;
-    }
-}
-
-// Adds to each word of `out` the value of `count` bytes of its row. The first row's bytes stand at `start`, and each next row's `width` further on.
-fn add_rows(
-    circuit: &[u8],
-    start: usize,
-    width: usize,
-    count: usize,
-    pairs: &[u64],
-    out: &mut [u64],
-)
-    requires { (start + length out.old * width ≤ length circuit.now + (width - count)) × (count ≤ width) × (width < 4096) × (count * 256 ≤ length pairs.now) }
-    ensures { (s : List ℕ) (a : ℕ) → PairsFrom s a count pairs.now → RowsAdded circuit.now start width s a (count * 2) out.old out.new }
-{
-    if count == BLOCK {
-        add_block_rows(circuit, start, width, pairs, out);
+    if count == B {
+        add_columns::<W, B>(table, at, sums, out);
         return;
     }
-    let mut i = 0;
-    while i < count {
-        let a = i * 256;
-        let e = a + 256;
-        add_byte_rows(circuit, start + i, width, &pairs[a..e], out);
-        i += 1;
+    for i in 0..count {
+        add_columns::<W, 1>(table, at + i, &sums[i * 256..i * 256 + 256], out);
     }
 }
 
-// Adds to each word of `out` the value of one byte of its row.
-fn add_byte_rows(circuit: &[u8], start: usize, width: usize, sums: &[u64], out: &mut [u64])
-    requires { (start + length out.old * width < length circuit.now + width) × (width < 4096) × (length sums.now ≡ 256) }
-    ensures { (s : List ℕ) (a : ℕ) → PairsOf (get_or s a 0) (get_or s (a + 1) 0) sums.now → RowsAdded circuit.now start width s a 2 out.old out.new }
+// Adds to each word of `out` the value of N bytes of its row, from the byte `at` of the row on.
+fn add_columns<W: Word, const N: usize>(table: Table, at: usize, sums: &[W], out: &mut [W])
+    requires { (length out.old ≡ table.rows) × (at + N ≤ table.width) × (N * 256 ≤ length sums.now) }
+    ensures { (s : List W) (a : ℕ) → PairsFrom W.view s a N sums.now → RowsAdded W.view table.entry.bytes.now at table.entry.width s a (N * 2) out.old out.new }
 {
-    let mut k = 0;
-    let mut from = start;
-    while k < out.len() {
-        out[k] = out[k] ^ pick(sums, circuit[from]);
-        from += width;
-        k += 1;
+    for (k, word) in out.iter_mut().enumerate() {
+        let from = k * table.width + at;
+        *word = add_row(*word, &table.bytes[from..from + N], sums);
     }
 }
 
-// Adds to each word of `out` the value of a block's bytes of its row.
-fn add_block_rows(circuit: &[u8], start: usize, width: usize, pairs: &[u64], out: &mut [u64])
-    requires { (start + length out.old * width + 8 ≤ length circuit.now + width) × (width < 4096) × (2048 ≤ length pairs.now) }
-    ensures { (s : List ℕ) (a : ℕ) → PairsFrom s a 8 pairs.now → RowsAdded circuit.now start width s a 16 out.old out.new }
+// The word with the value of a row's bytes added: each byte picks its pair's sum.
+fn add_row<W: Word>(word: W, row: &[u8], sums: &[W]) -> W
+    requires { length row.now * 256 ≤ length sums.now }
+    ensures { (s : List W) (a : ℕ) → PairsFrom W.view s a (length row.now) sums.now → RowAdded W.view row.now 0 s a (length row.now * 2) word result }
 {
-    let mut k = 0;
-    let mut from = start;
-    while k < out.len() {
-        let e = from + BLOCK;
-        out[k] = add_block_row(out[k], &circuit[from..e], pairs);
-        from += width;
-        k += 1;
+    let mut sum = word;
+    for (i, b) in row.iter().enumerate() {
+        sum = sum.plus(sums[i * 256 + usize::from(*b)]);
     }
-}
-
-// The word x with the value of a block's bytes added, straight on: each byte picks its pair's sum.
-fn add_block_row(x: u64, bytes: &[u8], pairs: &[u64]) -> u64
-    requires { (length bytes.now ≡ 8) × (2048 ≤ length pairs.now) }
-    ensures { (s : List ℕ) (a : ℕ) → PairsFrom s a 8 pairs.now → RowAdded bytes.now 0 s a 16 x result }
-{
-    let p0 = pick(&pairs[0..256], bytes[0]);
-    let p1 = pick(&pairs[256..512], bytes[1]);
-    let p2 = pick(&pairs[512..768], bytes[2]);
-    let p3 = pick(&pairs[768..1024], bytes[3]);
-    let p4 = pick(&pairs[1024..1280], bytes[4]);
-    let p5 = pick(&pairs[1280..1536], bytes[5]);
-    let p6 = pick(&pairs[1536..1792], bytes[6]);
-    let p7 = pick(&pairs[1792..2048], bytes[7]);
-    x ^ p0 ^ p1 ^ p2 ^ p3 ^ p4 ^ p5 ^ p6 ^ p7
-}
-
-// The sum that a byte picks of its pair's 256.
-fn pick(sums: &[u64], b: u8) -> u64
-    requires { length sums.now ≡ 256 }
-    ensures { (b < 256) × (result ≡ get_or sums.now b 0) }
-{
-    let i = memory::wide(b);
-    sums[i]
+    sum
 }

@@ -1,4 +1,3 @@
 pub mod OneOutcome
 pub mod Rule
 pub mod Sizes
-pub mod Small

@@ -1,14 +1,11 @@
 -- What the promises of this crate settle. Those that fill a part have one outcome. Those that print hand no value back and change nothing that is lent: any two of their outcomes in which all was printed are
 -- equal. Whether printing fails is for no promise to say, and what they print is no part of it: no contract can speak of what is written to a file. Assumes nothing.
-use mathlib.Core.Path.{◌≡◌, refl, sym, ap, ◌∙◌}
+use mathlib.Core.Path.{refl, sym, ap, ◌∙◌}
 use mathlib.Core.List.{List}
 use Prim.Native.Nat.{ℕ}
-use contract.Lifetimes.{Lfts}
-use borrow.Fn.Kinds.{ParamKind, ResultKind, In, Out, Dens, GoodsP}
-use Rattle.std.specs.Prelude.{Ok, Err, IsOk}
-use Rattle.std.proofs.Common.{true≢false}
-use Rattle.std.specs.declared.result.Result.{Result}
-use Rattle.memory.specs.Outcome.{Outcome, Allowed, OneOutcome}
+use Rattle.std.specs.Prelude.{IsOk}
+use Rattle.memory.specs.Outcome.{OneOutcome, OneOutcomeWhere}
+use Rattle.memory.proofs.Outcomes.{ok_same}
 use Rattle.lines.proofs.words as words
 use Rattle.lines.proofs.number as number
 use Rattle.lines.proofs.bytes_line as bytes-line
@@ -16,19 +13,6 @@ use Rattle.lines.proofs.digest_line as digest-line
 use Rattle.lines.proofs.hash_line as hash-line
 use Rattle.lines.proofs.progression as progression
 use Rattle.lines.proofs.elements as elements
-
--- two results that are `Ok` are equal, where any two values are
-ok_same : {A E : Type 0} → ((x y : A) → x ≡ y) → (r q : Result A E) → IsOk r → IsOk q → r ≡ q
-ok_same same (Ok x) (Ok y) g h = ap Ok (same x y)
-ok_same same (Ok x) (Err e) g h = absurd (true≢false (sym h))
-ok_same same (Err e) q g h = absurd (true≢false (sym g))
-
--- any two outcomes that are allowed, and in which `Good` holds, are equal
-module _ {n : ℕ} (ps : List (ParamKind n)) (r : ResultKind n) (asked : In n ps) (learnt : Out n ps r) where
-  abbrev OneOutcomeWhere : ((κs : Lfts n) (a : Dens κs ps) → Outcome ps r κs a → Type 0) → Type 0
-  OneOutcomeWhere Good =
-      (κs : Lfts n) (a : Dens κs ps) → GoodsP κs ps a → asked κs a
-      → (o q : Outcome ps r κs a) → Allowed ps r asked learnt κs a o → Allowed ps r asked learnt κs a q → Good κs a o → Good κs a q → o ≡ q
 
 pub words_one_outcome : OneOutcomeWhere words.Kinds.ps words.Kinds.r words.Reads.Asked words.Reads.Learnt (λ κs a o. IsOk o.0)
 words_one_outcome κs a good asked o q x y g h = ap (λ r. (r, o.1)) (ok_same (λ x y. refl) o.0 q.0 g h)

@@ -23,29 +23,24 @@ pub fn number(rt: HostRuntime, n: usize) -> io::Result<()> {
 // A colon, the bytes in hexadecimal and the end of the line.
 pub fn bytes_line(rt: HostRuntime, bytes: &[u8]) -> io::Result<()> {
     rt.write_all(b":")?;
-    if 0 < bytes.len() {
+    if !bytes.is_empty() {
         rt.write_all(b" ")?;
     }
-    let mut i = 0;
-    while i < bytes.len() {
-        let b = wide(bytes[i]);
+    for b in bytes {
         print!(rt; "{b:02x}")?;
-        i += 1;
     }
     rt.write_all(b"\n")
 }
 
 // Bytes that are many, as 32 bytes of SHAKE256.
 pub fn digest_line(rt: HostRuntime, bytes: &[u8]) -> io::Result<()> {
-    let s = Sponge::new();
-    hash_line(rt, s.absorb(bytes))
+    hash_line(rt, Sponge::new().absorb(bytes))
 }
 
 // What was absorbed, as 32 bytes of SHAKE256.
 pub fn hash_line(rt: HostRuntime, hash: Sponge) -> io::Result<()> {
     let mut digest = [0u8; 32];
-    let t = hash.finish();
-    t.squeeze(&mut digest);
+    hash.finish().squeeze(&mut digest);
     bytes_line(rt, &digest)
 }
 
@@ -55,11 +50,9 @@ pub fn progression(step: usize, start: usize, out: &mut [u8])
     ensures { out.new ≡ table (length out.old) (λ i. (step * i + start) % 256) }
 {
     let mut x = start;
-    let mut i = 0;
-    while i < out.len() {
-        out[i] = (x % 256) as u8;
+    for b in out.iter_mut() {
+        *b = (x % 256) as u8;
         x = (x + step) % 256;
-        i += 1;
     }
 }
 
@@ -67,14 +60,7 @@ pub fn progression(step: usize, start: usize, out: &mut [u8])
 pub fn elements(out: &mut [u8])
     ensures { (length out.new ≡ length out.old) × (Elements out.new) × (out.new ≡ table (length out.old) (λ i. get_or out.old i 0 % 16)) }
 {
-    let mut i = 0;
-    while i < out.len() {
-        out[i] = out[i] % 16;
-        i += 1;
+    for b in out.iter_mut() {
+        *b %= 16;
     }
-}
-
-// A byte as a number.
-fn wide(b: u8) -> u64 {
-    b as u64
 }

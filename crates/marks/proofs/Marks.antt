@@ -13,6 +13,9 @@ use lib.Pow.{pow-add, pow_mono, mod-pow-add}
 use mir.Val.{Fits}
 use mir.Syntax.{w64}
 use Rattle.memory.proofs.Bits.{one_bit}
+use Rattle.field.specs.Packing.{nib}
+use Rattle.field.proofs.Packing.{nib-lt}
+use mathlib.Core.List.{List}
 use Rattle.memory.proofs.Digits.{scaled_div, scaled_mod}
 use Rattle.memory.proofs.Every.{every, same1}
 use Rattle.lanes.specs.Lanes.{lane, Times}
@@ -134,9 +137,9 @@ pub marked_word : (v mark x : ℕ) → Flags mark → v < 16 → MarkedWord v ma
 unfolding MarkedWord
 marked_word v mark x f h q l = lane_xor q x (v * mark) ∙ ap (bit_xor (lane q x)) (lane_marked mark v f h q l)
 
-pub multiplied_word : (e a x r : ℕ) → Times x e r → MultipliedWord e a x (bit_xor r a)
+pub multiplied_word : (e a x r y : ℕ) → Times x e r → y ≡ bit_xor r a → MultipliedWord e a x y
 unfolding MultipliedWord Times
-multiplied_word e a x r h q l = lane_xor q r a ∙ ap (λ (y : ℕ). bit_xor y (lane q a)) (h q l)
+multiplied_word e a x r y h g q l = ap (lane q) g ∙ lane_xor q r a ∙ ap (λ (z : ℕ). bit_xor z (lane q a)) (h q l)
 
 pub cleared_word : (mark x : ℕ) → Flags mark → ClearedWord mark x (bit_and x (bit_xor 0xffffffffffffffff (15 * mark)))
 unfolding ClearedWord
@@ -151,13 +154,17 @@ cleared_word mark x f q l =
     kept : (y : ℕ) → y < 16 → (m : ℕ) → m < 2 → bit_and y (bit_xor 15 (15 * m)) ≡ y * (1 - m)
     kept y h m g = one_bit (λ (m : ℕ). bit_and y (bit_xor 15 (15 * m)) ≡ y * (1 - m)) (and_mask y 4 ∙ mod-eq_of_lt h ∙ sym (mul-one y)) (and_zero_r y ∙ sym (mul-zero y)) m g
 
--- the same with the element as the code has it
+-- the same with the element and the mask as the code has them
 pub marked_turn : (v mark x w : ℕ) → Flags mark → v < 16 → w ≡ v → MarkedWord v mark x (bit_xor x (w * mark))
 marked_turn v mark x w f h e = rw e (marked_word v mark x f h)
 
 pub marked_turn_fits : (v mark w : ℕ) → Flags mark → v < 16 → w ≡ v → mark < 2 ^ 64 → Fits w64 (w * mark)
 marked_turn_fits v mark w f h e g = rw e (marked_fits mark v f h g)
 
-pub cleared_turn : (mark x keep : ℕ) → Flags mark → keep ≡ keeping mark → ClearedWord mark x (bit_and x keep)
+pub cleared_turn : (mark x keep y : ℕ) → Flags mark → keep ≡ keeping mark → y ≡ bit_and x keep → ClearedWord mark x y
 unfolding keeping
-cleared_turn mark x keep f e = rw e (cleared_word mark x f)
+cleared_turn mark x keep y f e g = rw (g, e) (cleared_word mark x f)
+
+-- an element of bytes is one
+pub element_small : (v i : ℕ) (bytes : List ℕ) → v ≡ nib bytes i → v < 16
+element_small v i bytes e = rw e (nib-lt bytes i)

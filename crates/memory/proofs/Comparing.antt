@@ -2,13 +2,11 @@
 -- Assumes nothing.
 use mathlib.Core.Path.{◌≡◌, refl, sym, ap, ap₂, ◌∙◌, subst}
 use mathlib.Core.Bool.{Bool, true, false, ◌&&◌}
-use mathlib.Core.List.{List, [], ◌∷◌, ◌++◌}
-use Prim.Native.Nat.{ℕ, ◌+◌, ◌≤◌, ◌<◌}
-use native.Mathlib.Numerals.{add-one}
+use mathlib.Core.List.{List, [], ◌∷◌}
+use Prim.Native.Nat.{ℕ}
 use native.Mathlib.Omega.{arith}
 use lib.Dec.{eqb}
-use lib.ListN.{length, get_or, take}
-use lib.Seq.{take-suc, take_all, length-take-le}
+use lib.ListN.{length}
 use lib.Bits.{bit_or, bit_xor, or_add_and, and_le_l, and_le_r, xor_self, or_zero_l}
 use borrow.Author.Tests.{eq-eqb, ne_eqb, eqb-true, eqb-false}
 use Rattle.memory.specs.Lists.{same}
@@ -47,23 +45,7 @@ same_lengths x y h = of (same x y) (λ e. h (ap length (same_equal x y e)))
     of true n = absurd (n refl)
     of false n = refl
 
--- ---- one entry more
-
-same-snoc : (x y : List ℕ) (a b : ℕ) → length x ≡ length y → same (x ++ (a ∷ [])) (y ++ (b ∷ [])) ≡ same x y && eqb a b
-unfolding same
-same-snoc [] [] a b h = of (eqb a b)
-  where
-    of : (t : Bool) → t && true ≡ t
-    of true = refl
-    of false = refl
-same-snoc [] (d ∷ y) a b h = absurd (omega arith)
-same-snoc (c ∷ x) [] a b h = absurd (omega arith)
-same-snoc (c ∷ x) (d ∷ y) a b h =
-    ap (λ (t : Bool). eqb c d && t) (same-snoc x y a b (omega arith)) ∙ sym (regroup (eqb c d) (same x y) (eqb a b))
-  where
-    regroup : (p q r : Bool) → p && q && r ≡ p && (q && r)
-    regroup true q r = refl
-    regroup false q r = refl
+-- ---- the sum of differences
 
 or-zero : (a b : ℕ) → bit_or a b ≡ 0 → (a ≡ 0) × (b ≡ 0)
 or-zero a b e =
@@ -82,13 +64,34 @@ difference d a b true e = of (eqb a b) refl
     of false g = ne_eqb (bit_or d (bit_xor a b)) 0 (λ z. eqb-false a b g (xor-zero-same a b (or-zero d (bit_xor a b) z).1)) ∙ sym g
 difference d a b false e = ne_eqb (bit_or d (bit_xor a b)) 0 (λ z. eqb-false d 0 e (or-zero d (bit_xor a b) z).0)
 
-pub same_more : (x y : List ℕ) (i d : ℕ) → i < length x → length x ≡ length y
-    → eqb d 0 ≡ same (take i x) (take i y) → eqb (bit_or d (bit_xor (get_or x i 0) (get_or y i 0))) 0 ≡ same (take (i + 1) x) (take (i + 1) y)
-same_more x y i d h e g =
-    difference d (get_or x i 0) (get_or y i 0) (same (take i x) (take i y)) g
-    ∙ sym (same-snoc (take i x) (take i y) (get_or x i 0) (get_or y i 0) (length-take-le i x (omega arith) ∙ sym (length-take-le i y (omega arith))))
-    ∙ ap₂ same (sym (take-suc x i 0 h)) (sym (take-suc y i 0 (omega arith)))
-    ∙ ap (λ (n : ℕ). same (take n x) (take n y)) (sym (add-one i))
+-- u and v are left of x and y, and d is the sum of the differences before them
+abbrev pub Left : List ℕ → List ℕ → ℕ → List ℕ → List ℕ → Type 0
+Left x y d u v = (length u ≡ length v) × (same x y ≡ eqb d 0 && same u v)
 
-pub same_all : (x y : List ℕ) (i : ℕ) → length x ≤ i → length x ≡ length y → same (take i x) (take i y) ≡ same x y
-same_all x y i h e = ap₂ same (take_all i x h) (take_all i y (omega arith))
+-- at first all is left, then one entry less of each, and at last nothing
+pub left-all : (x y u v : List ℕ) → length x ≡ length y → u ≡ x → v ≡ y → Left x y 0 u v
+left-all x y u v h e f = (ap length e ∙ h ∙ sym (ap length f), sym (ap₂ same e f))
+
+pub left-less : (x y u v : List ℕ) (d a b : ℕ) (u2 v2 : List ℕ) → Left x y d u v → u ≡ a ∷ u2 → v ≡ b ∷ v2 → Left x y (bit_or d (bit_xor a b)) u2 v2
+unfolding same
+left-less x y u v d a b u2 v2 h e f =
+    let k = ap length e in
+    let l = ap length f in (
+      omega arith,
+      h.1 ∙ ap₂ (λ (s t : List ℕ). eqb d 0 && same s t) e f ∙ sym (regroup (eqb d 0) (eqb a b) (same u2 v2))
+          ∙ ap (λ (t : Bool). t && same u2 v2) (sym (difference d a b (eqb d 0) refl)),
+    )
+  where
+    regroup : (p q r : Bool) → p && q && r ≡ p && (q && r)
+    regroup true q r = refl
+    regroup false q r = refl
+
+pub left-none : (x y u v : List ℕ) (d : ℕ) → Left x y d u v → length u ≡ 0 → eqb d 0 ≡ same x y
+unfolding same
+left-none x y [] [] d h e = sym (h.1 ∙ of (eqb d 0))
+  where
+    of : (t : Bool) → t && true ≡ t
+    of true = refl
+    of false = refl
+left-none x y [] (b ∷ v) d h e = let k = h.0 in absurd (omega arith)
+left-none x y (a ∷ u) v d h e = absurd (omega arith)

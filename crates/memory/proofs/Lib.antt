@@ -8,6 +8,7 @@ pub mod Every
 pub mod Groups
 pub mod Lists
 pub mod OneOutcome
+pub mod Outcomes
 pub mod Parts
 pub mod Sections
 pub mod Stands

@@ -3,22 +3,17 @@
 use mathlib.Core.Path.{◌≡◌, refl, sym, ap, ap₂, ◌∙◌, subst}
 use mathlib.Core.List.{List, [], ◌∷◌, ◌++◌}
 use Prim.Native.Nat.{ℕ, zero, suc, ◌+◌, ◌-◌, ◌*◌, ◌≤◌, ◌<◌}
-use native.Mathlib.Nat.{mul-le-mul_right, suc-mul, sub-zero}
+use native.Mathlib.Nat.{mul-le-mul_right, suc-mul}
 use native.Mathlib.Decide.{dec_lt}
 use native.Mathlib.Omega.{arith}
-use lib.ListN.{length, get_or, drop, replicate, length-append, get_or-append}
+use lib.ListN.{length, get_or, length-append, get_or-append}
 use lib.Seq.{ext_get_or, get_or-append-add, get_or_at}
+pub use Rattle.std.proofs.lemmas.List.{drop-replicate}
 use Rattle.memory.specs.Lists.{table}
 
 -- n parts of w entries each: the i-th has room
 pub room : (i n w : ℕ) → i < n → i * w + w ≤ n * w
 room i n w h = subst (λ (k : ℕ). k ≤ n * w) (suc-mul i w) (mul-le-mul_right w h)
-
--- a value repeated k times, without the first n
-pub drop-replicate : (n k v : ℕ) → drop n (replicate k v) ≡ replicate (k - n) v
-drop-replicate zero k v = ap (λ (m : ℕ). replicate m v) (sym (sub-zero k))
-drop-replicate (suc n) zero v = ap (λ (m : ℕ). replicate m v) (let e : 0 ≡ 0 - suc n = omega arith in e)
-drop-replicate (suc n) (suc k) v = drop-replicate n k v ∙ ap (λ (m : ℕ). replicate m v) (let e : k - n ≡ suc k - suc n = omega arith in e)
 
 -- ---- a list by its rule
 

@@ -4,6 +4,10 @@ use mathlib.Core.Path.{sym, ap, ◌∙◌}
 use mathlib.Core.Bool.{Bool}
 use mathlib.Core.List.{List}
 use Prim.Native.Nat.{ℕ}
+use denote.RattleType.{RattleType}
+use denote.Param.Laws.{Laws, IsCopy}
+use mir.Syntax.{Dict}
+use Rattle.std.specs.declared.clone.Clone.{Ghosts}
 use Rattle.memory.specs.Outcome.{OneOutcome}
 use Rattle.memory.proofs.copy as copy
 use Rattle.memory.proofs.clear as clear
@@ -11,8 +15,10 @@ use Rattle.memory.proofs.equal as equal
 use Rattle.memory.proofs.lesser as lesser
 use Rattle.memory.proofs.wide as wide
 
-pub copy_one_outcome : OneOutcome copy.Kinds.ps copy.Kinds.r copy.Reads.Asked copy.Reads.Learnt
-copy_one_outcome κs a good asked o q x y = ap (λ (l : List ℕ). (tt, (tt, (l, tt)))) (x.promised ∙ sym y.promised)
+pub copy_one_outcome :
+    (T : RattleType) (L : Laws T) (C : IsCopy T) (G : Ghosts T.Denot) (d : Dict)
+    → OneOutcome (copy.Kinds.ps T L C) (copy.Kinds.r T L C) (copy.Reads.Asked T L C G d) (copy.Reads.Learnt T L C G d)
+copy_one_outcome T L C G d κs a good asked o q x y = ap (λ (l : List T.Denot). (tt, (tt, (l, tt)))) (x.promised ∙ sym y.promised)
 
 pub clear_one_outcome : OneOutcome clear.Kinds.ps clear.Kinds.r clear.Reads.Asked clear.Reads.Learnt
 clear_one_outcome κs a good asked o q x y = ap (λ (l : List ℕ). (tt, (l, tt))) (x.promised ∙ sym y.promised)

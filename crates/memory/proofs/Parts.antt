@@ -127,15 +127,15 @@ put_whole old new h =
 -- ---- `over`
 
 -- where all of it has room
-pub over_fits : (new old : List ℕ) → length new ≤ length old → over new old ≡ new ++ drop (length new) old
+pub over_fits : {X : Type 0} (new old : List X) → length new ≤ length old → over new old ≡ new ++ drop (length new) old
 unfolding over
-over_fits new old h = ap (λ (l : List ℕ). l ++ drop (length new) old) (take_all (length old) new h)
+over_fits new old h = ap (λ l. l ++ drop (length new) old) (take_all (length old) new h)
 
 pub over-put : (new old : List ℕ) → length new ≤ length old → over new old ≡ put old 0 new
 unfolding put
 over-put new old h = over_fits new old h ∙ ap (λ (k : ℕ). new ++ drop k old) (sym (zero-add (length new)))
 
-pub length_over : (new old : List ℕ) → length (over new old) ≡ length old
+pub length_over : {X : Type 0} (new old : List X) → length (over new old) ≡ length old
 unfolding over
 length_over new old = simp (length-append, length-take, length-drop) (omega arith)
 
@@ -170,13 +170,13 @@ copied_more src dst i h k =
     ∙ ap (λ (l : List ℕ). l ++ drop (suc i) dst) (sym (take-suc src i 0 h))
     ∙ ap (λ (n : ℕ). take n src ++ drop n dst) (sym (add-one i))
 
-pub copied_all : (src dst : List ℕ) (i : ℕ) → i ≡ min (length src) (length dst) → take i src ++ drop i dst ≡ over src dst
+pub copied_all : {X : Type 0} (src dst : List X) (i : ℕ) → i ≡ min (length src) (length dst) → take i src ++ drop i dst ≡ over src dst
 unfolding over
 copied_all src dst i e =
     elim (dec_lt (length src) (length dst)) as (λ d. take i src ++ drop i dst ≡ take (length dst) src ++ drop (length src) dst) [
       | yes y ↦ (let g : i ≡ length src = omega arith in
-          ap₂ (λ (x y : List ℕ). x ++ y) (take_all i src (omega arith) ∙ sym (take_all (length dst) src (omega arith))) (ap (λ (n : ℕ). drop n dst) g))
+          ap₂ (λ x y. x ++ y) (take_all i src (omega arith) ∙ sym (take_all (length dst) src (omega arith))) (ap (λ (n : ℕ). drop n dst) g))
       | no y ↦ (let g : i ≡ length dst = omega arith in
-          ap₂ (λ (x y : List ℕ). x ++ y) (ap (λ (n : ℕ). take n src) g)
+          ap₂ (λ x y. x ++ y) (ap (λ (n : ℕ). take n src) g)
           (drop_of_length-le dst {i = i} (omega arith) ∙ sym (drop_of_length-le dst {i = length src} (omega arith))))
     ]

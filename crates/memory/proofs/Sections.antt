@@ -3,10 +3,12 @@
 use mathlib.Core.Path.{◌≡◌, refl, sym, ap, ap₂, ◌∙◌}
 use mathlib.Core.List.{List, [], ◌∷◌, ◌++◌, append_assoc, flatten}
 use Prim.Native.Nat.{ℕ, zero, suc, ◌+◌, ◌-◌, ◌*◌, ◌≤◌, ◌<◌}
-use native.Mathlib.Nat.{add-zero, zero-add, suc-mul, zero-mul, sub-zero}
+use native.Mathlib.Nat.{add-zero, suc-mul, zero-mul, sub-zero}
 use native.Mathlib.Omega.{arith}
 use lib.ListN.{length, get_or, take, drop, replicate, length-replicate, length-append, length-drop, take-append-drop}
-use lib.Seq.{ext_get_or, take-append-le, drop-append-le, take_at, drop_at, take-nil, take-take, drop-drop}
+use lib.Seq.{ext_get_or, take-append-le, drop-append-le, take_at, drop_at, take-take, drop-drop}
+pub use Rattle.std.proofs.lemmas.List.{drop-take}
+use Rattle.std.proofs.lemmas.List.{drop-take}
 use Rattle.memory.specs.Lists.{over, put}
 use Rattle.memory.specs.Sections.{pieces}
 use Rattle.memory.proofs.Lists.{room}
@@ -35,15 +37,6 @@ put-before old a b new more e h =
 
     count : b + length more ≡ a + length (new ++ more)
     count = simp length-append (omega arith)
-
--- the n entries from a on, read off the first a + n
-pub drop-take : (a n : ℕ) (x : List ℕ) → drop a (take (a + n) x) ≡ take n (drop a x)
-drop-take zero n x = ap (λ (k : ℕ). take k x) (zero-add n)
-drop-take (suc a) n [] = ap (drop (suc a)) (take-nil (suc a + n)) ∙ sym (take-nil n)
-drop-take (suc a) n (y ∷ x) = ap (λ (k : ℕ). drop (suc a) (take k (y ∷ x))) (count a) ∙ drop-take a n x
-  where
-    count : (a : ℕ) → suc a + n ≡ suc (a + n)
-    count a = omega arith
 
 -- what lies before a part that is put stays
 pub part-before-put : (old : List ℕ) (b : ℕ) (new : List ℕ) (a n : ℕ) → a + n ≤ b → b + length new ≤ length old → take n (drop a (put old b new)) ≡ take n (drop a old)

@@ -14,7 +14,7 @@ unfolding put
 stores_put l at new h = sets-eq new l at h ∙ append_assoc (take at l) new (drop (at + length new) l)
 
 -- a whole list written over another
-pub over-whole : (new old : List ℕ) → length new ≡ length old → over new old ≡ new
+pub over-whole : {X : Type 0} (new old : List X) → length new ≡ length old → over new old ≡ new
 over-whole new old h =
     over_fits new old (omega arith)
-    ∙ ap (λ (l : List ℕ). new ++ l) (drop_of_length-le old {i = length new} (omega arith)) ∙ append-nil new
+    ∙ ap (λ l. new ++ l) (drop_of_length-le old {i = length new} (omega arith)) ∙ append-nil new

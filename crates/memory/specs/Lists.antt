@@ -8,7 +8,7 @@ table zero f = []
 table (suc n) f = table n f ++ (f n ∷ [])
 
 -- `new` written over the start of `old`: as much of it as has room, and what lies after it is kept
-unfoldable pub over : List ℕ → List ℕ → List ℕ
+unfoldable pub over : {X : Type 0} → List X → List X → List X
 over new old = take (length old) new ++ drop (length new) old
 
 -- `old` with `new` in the place of as many entries from the place `at` on

@@ -30,3 +30,9 @@ module _ {n : ℕ} (ps : List (ParamKind n)) (r : ResultKind n) where
     OneSight X see =
         (κs : Lfts n) (a : Dens κs ps) → GoodsP κs ps a → asked κs a
         → (o q : Outcome κs a) → Allowed κs a o → Allowed κs a q → see κs a o ≡ see κs a q
+
+    -- the same of the outcomes in which `Good` holds, where the promise leaves the others open
+    abbrev pub OneOutcomeWhere : ((κs : Lfts n) (a : Dens κs ps) → Outcome κs a → Type 0) → Type 0
+    OneOutcomeWhere Good =
+        (κs : Lfts n) (a : Dens κs ps) → GoodsP κs ps a → asked κs a
+        → (o q : Outcome κs a) → Allowed κs a o → Allowed κs a q → Good κs a o → Good κs a q → o ≡ q

@@ -7,33 +7,25 @@ ghost use Rattle.std.specs.Prelude.{◌≡◌, ◌<◌, min, length, replicate};
 ghost use Rattle.memory.specs.Lists.{over, same};
 
 // Writes `src` over the start of `dst`, as much of it as has room; the later bytes of `dst` are kept.
-pub fn copy(src: &[u8], dst: &mut [u8])
+pub fn copy<T: Copy>(src: &[T], dst: &mut [T])
     ensures { dst.new ≡ over src.now dst.old }
 {
-    let n = lesser(src.len(), dst.len());
-    let mut i = 0;
-    while i < n {
-        dst[i] = src[i];
-        i += 1;
-    }
+    let n = src.len().min(dst.len());
+    dst[..n].copy_from_slice(&src[..n]);
 }
 
 // The lesser of two numbers.
 pub fn lesser(a: usize, b: usize) -> usize
     ensures { result ≡ min a b }
 {
-    if a < b { a } else { b }
+    a.min(b)
 }
 
 // Sets every byte of `dst` to 0.
 pub fn clear(dst: &mut [u8])
     ensures { dst.new ≡ replicate (length dst.old) 0 }
 {
-    let mut i = 0;
-    while i < dst.len() {
-        dst[i] = 0;
-        i += 1;
-    }
+    dst.fill(0);
 }
 
 // Whether two lent parts hold the same bytes. All of them are read, wherever the first difference lies.
@@ -44,10 +36,8 @@ pub fn equal(a: &[u8], b: &[u8]) -> bool
         return false;
     }
     let mut difference: u8 = 0;
-    let mut i = 0;
-    while i < a.len() {
-        difference = difference | (a[i] ^ b[i]);
-        i += 1;
+    for (x, y) in a.iter().zip(b) {
+        difference |= x ^ y;
     }
     difference == 0
 }
@@ -56,5 +46,5 @@ pub fn equal(a: &[u8], b: &[u8]) -> bool
 pub fn wide(b: u8) -> usize
     ensures { (result ≡ b) × (result < 256) }
 {
-    b as usize
+    usize::from(b)
 }

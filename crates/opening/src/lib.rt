@@ -10,6 +10,7 @@ ghost use Rattle.forms.specs.Room.{hidden_in};
 ghost use Rattle.biscuit.specs.Signature.{repeated};
 ghost use Rattle.opening.specs.Shown.{leaf_under, shown_under, leaf_of, shown_of};
 
+use hashes::Salted;
 use sets::{LONGEST_SEED, Params};
 
 // Writes the path and the hidden party's commitment of each repetition to `out`, one behind the other, and the hidden leaf of each over its root. `hidden`
@@ -19,57 +20,35 @@ pub fn show_all(p: Params, salt: &[u8], hidden: &[u8], roots: &mut [u8], out: &m
     ensures shown { out.new ≡ repeated p.tau (shown_of p salt.now hidden.now roots.old) }
     ensures leaves { roots.new ≡ repeated p.tau (leaf_of p salt.now hidden.now roots.old) }
 {
-    let mut i = 0;
-    while i < p.tau {
-        show(p, salt, hidden, i, roots, out);
-        i += 1;
+    for i in 0..p.tau {
+        show(p.bits / 8, p.l, salt, hidden, i, roots, out);
     }
 }
 
-// The repetition with i before it, in its sections of `roots` and `out`.
-fn show(p: Params, salt: &[u8], hidden: &[u8], i: usize, roots: &mut [u8], out: &mut [u8])
-    requires { (S p ≤ 32) × (p.l ≤ 8) × (i < 73) × (length salt.now ≤ 64) × (i < length hidden.now) × (i * S p + S p ≤ length roots.old) × (i * (p.l * S p + 2 * S p) + (p.l * S p + 2 * S p) ≤ length out.old) }
-    ensures shown { out.new ≡ put out.old (i * (p.l * S p + 2 * S p)) (shown_under (S p) salt.now (i + 1) p.l (take (S p) (drop (i * S p) roots.old)) (hidden_in p.l hidden.now (i + 1))) }
-    ensures leaf { roots.new ≡ put roots.old (i * S p) (leaf_under (S p) salt.now (i + 1) p.l (take (S p) (drop (i * S p) roots.old)) (hidden_in p.l hidden.now (i + 1))) }
+// The repetition with i before it, of 2^l parties with s bytes to a seed, in its sections of `roots` and `out`.
+fn show(s: usize, l: usize, salt: &[u8], hidden: &[u8], i: usize, roots: &mut [u8], out: &mut [u8])
+    requires { (s ≤ 32) × (l ≤ 8) × (i < 73) × (length salt.now ≤ 64) × (i < length hidden.now) × (i * s + s ≤ length roots.old) × (i * (l * s + 2 * s) + (l * s + 2 * s) ≤ length out.old) }
+    ensures shown { out.new ≡ put out.old (i * (l * s + 2 * s)) (shown_under s salt.now (i + 1) l (take s (drop (i * s) roots.old)) (hidden_in l hidden.now (i + 1))) }
+    ensures leaf { roots.new ≡ put roots.old (i * s) (leaf_under s salt.now (i + 1) l (take s (drop (i * s) roots.old)) (hidden_in l hidden.now (i + 1))) }
 {
-    let s = p.bits / 8;
-    let w = p.l * s + 2 * s;
+    let w = l * s + 2 * s;
     let a = i * s;
-    let b = a + s;
     let c = i * w;
-    let d = c + w;
-    let h = forms::hidden_party(hidden, p.l, i + 1);
-    show_one(salt, i + 1, p.l, h, &mut roots[a..b], &mut out[c..d]);
+    let of = Salted { salt, e: i + 1 };
+    let h = forms::hidden_party(hidden, l, i + 1);
+    show_one(of, l, h, &mut roots[a..a + s], &mut out[c..c + w]);
 }
 
-// Writes the path around party h of repetition e and its commitment to `out`, and its leaf over the root.
-fn show_one(salt: &[u8], e: usize, l: usize, h: usize, root: &mut [u8], out: &mut [u8])
-    requires { (length salt.now ≤ 64) × (length root.old ≤ 32) × (l ≤ 8) × (1 ≤ h) × (h ≤ 2 ^ l) × (length out.old ≡ l * length root.old + 2 * length root.old) }
-    ensures shown { out.new ≡ shown_under (length root.old) salt.now e l root.old h }
-    ensures leaf { root.new ≡ leaf_under (length root.old) salt.now e l root.old h }
-{
-    let mut leaf = [0u8; LONGEST_SEED];
-    show_with(salt, e, l, h, &mut leaf, root, out);
-}
-
-// The same, with room for the leaf.
-fn show_with(
-    salt: &[u8],
-    e: usize,
-    l: usize,
-    h: usize,
-    leaf: &mut [u8],
-    root: &mut [u8],
-    out: &mut [u8],
-)
-    requires { (length salt.now ≤ 64) × (length root.old ≤ 32) × (l ≤ 8) × (1 ≤ h) × (h ≤ 2 ^ l) × (32 ≤ length leaf.old) × (length out.old ≡ l * length root.old + 2 * length root.old) }
-    ensures shown { out.new ≡ shown_under (length root.old) salt.now e l root.old h }
-    ensures leaf { root.new ≡ leaf_under (length root.old) salt.now e l root.old h }
+// Writes the path around party h and its commitment to `out`, and its leaf over the root.
+fn show_one(of: Salted<'_>, l: usize, h: usize, root: &mut [u8], out: &mut [u8])
+    requires { (length root.old ≤ 32) × (l ≤ 8) × (1 ≤ h) × (h ≤ 2 ^ l) × (length out.old ≡ l * length root.old + 2 * length root.old) }
+    ensures shown { out.new ≡ shown_under (length root.old) of.entry.salt.now of.entry.e l root.old h }
+    ensures leaf { root.new ≡ leaf_under (length root.old) of.entry.salt.now of.entry.e l root.old h }
 {
     let s = root.len();
+    let mut leaf = [0u8; LONGEST_SEED];
     let a = l * s;
-    let b = a + 2 * s;
-    tree::path(salt, e, root, l, h, &mut leaf[0..s], &mut out[0..a]);
-    hashes::commit(salt, e, h, &leaf[0..s], &mut out[a..b]);
+    tree::path(of, root, l, h, &mut leaf[0..s], &mut out[0..a]);
+    of.commit(h, &leaf[0..s], &mut out[a..a + 2 * s]);
     memory::copy(&leaf[0..s], root);
 }

@@ -8,13 +8,31 @@ use Rattle.sets.specs.Sets.{S}
 use Rattle.sets.specs.declared.Params.{Params}
 use Rattle.refusals.specs.Refusals.{work_length}
 use Rattle.biscuit.specs.Signature.{vector_count}
-use Rattle.biscuit.specs.Room.{Fits, roots_at}
+use Rattle.biscuit.specs.Room.{Fits, LayoutOf, roots_at}
+use Rattle.biscuit.specs.declared.Layout.{Layout}
 use Rattle.biscuit.proofs.Repeated.{among, among_end}
 use Rattle.biscuit.proofs.Room.{mapped}
 
 -- the root of repetition e lies in work
 pub root-end : (P : Params) (e s roots : ℕ) → Fits P → 1 ≤ e → e ≤ P.tau → s ≡ S P → roots ≡ roots_at P → roots + (e - 1) * s + s ≤ work_length
 root-end P e s roots f h k es er = among_end e P.tau (S P) (roots_at P) work_length s roots h k (let m = mapped P in let enough = f.enough in omega arith) es er
+
+-- the parts of work lie in it, one behind the other
+pub record Inside (map : Layout) : Type 0 where
+  pub leaves : map.leaves ≤ map.room
+  pub room : map.room ≤ map.roots
+  pub roots : map.roots ≤ map.challenges
+  pub challenges : map.challenges ≤ map.end
+  pub end : map.end ≤ work_length
+
+pub inside : (P : Params) (map : Layout) → Fits P → LayoutOf P map → Inside map
+inside P map f l = let m = mapped P in let enough = f.enough in record {
+  leaves = omega (arith, l.leaves, l.room);
+  room = omega (arith, l.room, l.roots);
+  roots = omega (arith, l.roots, l.challenges);
+  challenges = omega (arith, l.challenges, l.end);
+  end = omega (arith, l.end);
+}
 
 -- ---- the packing
 

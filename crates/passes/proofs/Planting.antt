@@ -1,15 +1,15 @@
 -- The leaves of a repetition, put between circuit and room: they are cut into the seeds of the parties again, and nothing else of work has changed, repetition after repetition. Assumes nothing.
 use mathlib.Core.Path.{◌≡◌, refl, sym, ap, ap₂, ◌∙◌}
-use mathlib.Core.List.{List, [], ◌++◌, flatten, append-nil}
+use mathlib.Core.List.{List, [], ◌++◌, flatten, append-nil, append_assoc}
 use Prim.Native.Nat.{ℕ, ◌+◌, ◌-◌, ◌*◌, ◌≤◌, ◌<◌}
 use native.Mathlib.Omega.{arith}
 use lib.ListN.{length, take, drop, length-drop}
-use lib.Seq.{drop-drop}
-use Rattle.memory.specs.Lists.{over, put}
+use lib.Seq.{drop-drop, take-take, length-take-le}
+use Rattle.std.proofs.lemmas.List.{take-append-drop, drop-append-le}
+use Rattle.memory.specs.Lists.{put}
 use Rattle.memory.specs.Sections.{pieces}
 use Rattle.memory.proofs.Parts.{take_put, mid_put, lent-put, length-lent}
 use Rattle.memory.proofs.Sections.{Each, pieces-flatten}
-use Rattle.memory.proofs.Stores.{over-whole}
 use Rattle.sets.specs.Sets.{S, N}
 use Rattle.sets.specs.declared.Params.{Params}
 use Rattle.tree.specs.Tree.{children, get_seeds}
@@ -27,20 +27,28 @@ put-around : (x y : List ℕ) (at : ℕ) (new : List ℕ) → take at x ≡ take
 unfolding put
 put-around x y at new h k = ap₂ (λ (u v : List ℕ). u ++ (new ++ v)) h k
 
+-- the leaves' part, as the code lends it
+pub leaves-part : (P : Params) (x : List ℕ) (map : Layout) → LayoutOf P map → room_at P ≤ length x → length (take (map.room - map.leaves) (drop map.leaves x)) ≡ 16 * groups P * S P
+leaves-part P x map l h =
+    let m = mapped P in
+    length-lent x map.leaves map.room (omega (arith, l.leaves, l.room)) (omega (arith, l.room))
+    ∙ (let z : map.room - map.leaves ≡ 16 * groups P * S P = omega (arith, l.leaves, l.room) in z)
+
+pub leaves-lent : (P : Params) → Fits P → (work : List ℕ) → length work ≡ work_length → (map : Layout) → LayoutOf P map
+    → length (take (map.room - map.leaves) (drop map.leaves work)) ≡ 16 * groups P * S P
+leaves-lent P f work size map l = leaves-part P work map l (let m = mapped P in let enough = f.enough in omega arith)
+
 -- the root of a repetition, in work
 pub root-part : (P : Params) (work : List ℕ) (e : ℕ) → root_in (S P) (drop (roots_at P) work) e ≡ take (S P) (drop (roots_at P + (e - 1) * S P) work)
 unfolding root_in
 root-part P work e = ap (take (S P)) (drop-drop ((e - 1) * S P) (roots_at P) work)
 
--- the leaves' part, as the code lends it
-pub leaves-lent : (P : Params) → Fits P → (work : List ℕ) → length work ≡ work_length → (map : Layout) → LayoutOf P map
-    → length (take (map.room - map.leaves) (drop map.leaves work)) ≡ 16 * groups P * S P
-leaves-lent P f work size map l =
-    let m = mapped P in let enough = f.enough in
-    let a = l.leaves in
-    let b = l.room in
-    length-lent work map.leaves map.room (omega arith) (omega arith)
-    ∙ (let z : map.room - map.leaves ≡ 16 * groups P * S P = omega arith in z)
+-- and among the roots, as the code lends it
+root-lent : (P : Params) (e s : ℕ) (roots : List ℕ) → s ≡ S P → take ((e - 1) * s + s - (e - 1) * s) (drop ((e - 1) * s) roots) ≡ root_in (S P) roots e
+unfolding root_in
+root-lent P e s roots h =
+    ap (λ (n : ℕ). take n (drop ((e - 1) * s) roots)) (let z : (e - 1) * s + s - (e - 1) * s ≡ s = omega arith in z)
+    ∙ ap (λ (n : ℕ). take n (drop ((e - 1) * n) roots)) h
 
 module _ (P : Params) (f : Fits P) (salt : List ℕ) (work : List ℕ) (size : length work ≡ work_length) (e : ℕ) (from : 1 ≤ e) (to : e ≤ P.tau) where
   root_size : length (root_in (S P) (drop (roots_at P) work) e) ≡ S P
@@ -92,38 +100,42 @@ module _ (P : Params) (f : Fits P) (salt : List ℕ) (work : List ℕ) (size : l
       ap₂ (λ (a : ℕ) (x : List ℕ). take (map.room - map.leaves) (drop a x)) l.leaves h
       ∙ planted_leaves (map.room - map.leaves) (let a = l.leaves in let b = l.room in omega arith)
 
-  -- the root copied, and its leaves written
-  pub planted : (map : Layout) (root copied last : List ℕ) → LayoutOf P map → length root ≡ S P
-      → copied ≡ over (take (map.roots + (e - 1) * length root + length root - (map.roots + (e - 1) * length root)) (drop (map.roots + (e - 1) * length root) work)) root
-      → last ≡ flatten (get_seeds (children (length copied) salt e) P.l copied)
-      → take map.leaves work ++ (last ++ drop (map.room - map.leaves) (drop map.leaves work)) ≡ put work (leaves_at P) (flatten (seeds_in P salt (drop (roots_at P) work) e))
+  -- the leaves of the root, written in front of the roots
+  pub planted : (map : Layout) (s : ℕ) (front roots last : List ℕ) → LayoutOf P map → s ≡ S P → front ≡ take map.roots work → roots ≡ drop map.roots work
+      → (let root = take ((e - 1) * s + s - (e - 1) * s) (drop ((e - 1) * s) roots) in last ≡ flatten (get_seeds (children (length root) salt e) P.l root))
+      → (take map.leaves front ++ (last ++ drop (map.room - map.leaves) (drop map.leaves front))) ++ roots ≡ put work (leaves_at P) (flatten (seeds_in P salt (drop (roots_at P) work) e))
   unfolding seeds_in
-  planted map root copied last l er ec el =
-      lent-put work map.leaves map.room last
-      (ap length whole ∙ length_planted ∙ (let m = mapped P in let enough = f.enough in let a = l.leaves in let b = l.room in let z : 16 * groups P * S P ≡ map.room - map.leaves = omega arith in z))
+  planted map s front roots last l es ef er el =
+      append_assoc (take a front) (last ++ drop n (drop a front)) roots
+      ∙ ap (λ (x : List ℕ). take a front ++ x) (append_assoc last (drop n (drop a front)) roots)
+      ∙ ap₂ (λ (x y : List ℕ). x ++ (last ++ y)) before behind
+      ∙ lent-put work a map.room last (ap length whole ∙ length_planted ∙ (let m = mapped P in let z : 16 * groups P * S P ≡ n = omega (arith, l.leaves, l.room) in z))
       ∙ ap₂ (put work) l.leaves whole
     where
-      at : ℕ
-      at = map.roots + (e - 1) * length root
+      a : ℕ
+      a = map.leaves
 
-      place : at ≡ roots_at P + (e - 1) * S P
-      place = ap₂ (λ (r s : ℕ). r + (e - 1) * s) l.roots er
+      n : ℕ
+      n = map.room - map.leaves
 
-      part : take (at + length root - at) (drop at work) ≡ root_in (S P) (drop (roots_at P) work) e
-      part =
-          ap₂ (λ (n k : ℕ). take n (drop k work)) (let z : at + length root - at ≡ S P = omega arith in z) place
-          ∙ sym (root-part P work e)
+      inside : map.roots ≤ length work
+      inside = let m = mapped P in let enough = f.enough in omega (arith, l.roots)
 
-      same : copied ≡ root_in (S P) (drop (roots_at P) work) e
-      same =
-          ec
-          ∙ over-whole (take (at + length root - at) (drop at work)) root (ap length part ∙ root_size ∙ sym er)
-          ∙ part
+      before : take a front ≡ take a work
+      before = ap (take a) ef ∙ take-take a map.roots work (let m = mapped P in omega (arith, l.leaves, l.roots))
+
+      behind : drop n (drop a front) ++ roots ≡ drop n (drop a work)
+      behind =
+          ap₂ (λ (x y : List ℕ). x ++ y) (drop-drop n a front ∙ ap (drop (a + n)) ef) er
+          ∙ sym (drop-append-le (a + n) (take map.roots work) (drop map.roots work) (let t = length-take-le map.roots work inside in let m = mapped P in omega (arith, l.leaves, l.room, l.roots)))
+          ∙ ap (drop (a + n)) (take-append-drop map.roots work)
+          ∙ sym (drop-drop n a work)
+
+      part : take ((e - 1) * s + s - (e - 1) * s) (drop ((e - 1) * s) roots) ≡ root_in (S P) (drop (roots_at P) work) e
+      part = root-lent P e s roots es ∙ ap (λ (x : List ℕ). root_in (S P) x e) (er ∙ ap (λ (k : ℕ). drop k work) l.roots)
 
       whole : last ≡ flatten (get_seeds (children (S P) salt e) P.l (root_in (S P) (drop (roots_at P) work) e))
-      whole =
-          el
-          ∙ ap₂ (λ (n : ℕ) (x : List ℕ). flatten (get_seeds (children n salt e) P.l x)) (ap length same ∙ root_size) same
+      whole = el ∙ ap₂ (λ (k : ℕ) (x : List ℕ). flatten (get_seeds (children k salt e) P.l x)) (ap length part ∙ root_size) part
 
 -- ---- repetitions planted one over the other
 

@@ -1,12 +1,11 @@
 -- What lent bytes hold afterwards, by the number: work cleared or kept, an output written or kept. Assumes nothing.
 use mathlib.Core.Path.{◌≡◌, refl, ap, ap₂, ◌∙◌}
-use mathlib.Core.Bool.{Bool, cond}
 use mathlib.Core.List.{List, ◌++◌}
 use Prim.Native.Nat.{ℕ, ◌≤◌}
 use native.Mathlib.Omega.{arith}
 use lib.ListN.{length, take, drop, replicate, length-append, length-replicate, length-drop}
 use lib.Seq.{take_at, drop_at, length-take-le}
-use borrow.Author.Tests.{ne_eqb}
+use Rattle.std.proofs.lemmas.Bool.Decides.{nat_tests}
 use Rattle.memory.specs.Lists.{over}
 use Rattle.refusals.specs.Refusals.{work_length, cleared, work_after, output_after}
 
@@ -35,12 +34,11 @@ cleared_again n work u v e h l f =
 -- after a refusal of sizes work is as it was
 pub work_after_refused : (number : ℕ) (work : List ℕ) → 1 ≤ number → number ≤ 7 → work_after number work ≡ work
 unfolding work_after
-work_after_refused number work a b =
-    simp (ne_eqb number 0 (λ e. absurd (omega arith)), ne_eqb number 8 (λ e. absurd (omega arith)), ne_eqb number 9 (λ e. absurd (omega arith)))
+work_after_refused number work a b = grind (arith, nat_tests)
 
 pub output_after_refused : (number : ℕ) (result output : List ℕ) → (number ≡ 0 → ⊥) → output_after number result output ≡ output
 unfolding output_after
-output_after_refused number result output n = ap (λ (b : Bool). cond b (over result output) output) (ne_eqb number 0 n)
+output_after_refused number result output n = grind (arith, nat_tests)
 
 -- after 8 and 9, and after 0, it is cleared
 pub work_after_inconsistent : (work : List ℕ) → work_after 8 work ≡ cleared work

@@ -1,4 +1,4 @@
 pub mod Lent
+pub mod Numbers
 pub mod OneOutcome
 pub mod Refusals
-pub mod Sizes

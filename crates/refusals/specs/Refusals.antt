@@ -1,7 +1,9 @@
 -- The numbers that the desk says (document 01, "What the desk says"), the tests of sizes in their order, and what lent bytes hold afterwards by the number.
 -- A size test is over lengths; the names are those of the lent parts. Assumes nothing.
-use Rattle.std.specs.Prelude.{Bool, not, ◌||◌, cond, List, ◌++◌, ℕ, ◌*◌, eqb, ltb, drop, replicate}
+use Rattle.std.specs.Prelude.{Bool, not, ◌||◌, cond, List, ◌++◌, ℕ, ◌*◌, eqb, ltb, drop, replicate, Result, Ok, Err}
 use Rattle.memory.specs.Lists.{over}
+use Rattle.refusals.specs.declared.Refusal.{Refusal}
+use Rattle.refusals.specs.declared.Refusal.TheVariants.{NoSuchSet, SeedLengthWrong, MessageTooLong, KeyLengthWrong, SignatureLengthWrong, OutputTooShort, WorkTooShort, KeyNotConsistent, NotAccepted, EnvelopeLengthWrong, EnvelopeVersionWrong}
 use Rattle.sets.specs.Sets.{S, params_of, secret_key_length, public_key_length, signature_length}
 
 -- ---- numbers
@@ -65,6 +67,25 @@ message_limit = 32768
 -- the bytes of work that a call needs, and leaves zero
 unfoldable pub work_length : ℕ
 work_length = 65536
+
+-- the number of a refusal
+abbrev pub refusal_number : Refusal → ℕ
+refusal_number NoSuchSet = no_such_set
+refusal_number SeedLengthWrong = seed_length_wrong
+refusal_number MessageTooLong = message_too_long
+refusal_number KeyLengthWrong = key_length_wrong
+refusal_number SignatureLengthWrong = signature_length_wrong
+refusal_number OutputTooShort = output_too_short
+refusal_number WorkTooShort = work_too_short
+refusal_number KeyNotConsistent = key_not_consistent
+refusal_number NotAccepted = not_accepted
+refusal_number EnvelopeLengthWrong = envelope_length_wrong
+refusal_number EnvelopeVersionWrong = envelope_version_wrong
+
+-- the number of an answer
+abbrev pub number_of : {A : Type 0} → Result A Refusal → ℕ
+number_of (Ok value) = done
+number_of (Err refusal) = refusal_number refusal
 
 -- ---- tests; each is true where it refuses
 

@@ -1,7 +1,7 @@
 -- Phase 3, repetition after repetition: what the second hash has absorbed; and what this is to a signer whose secret, roots, circuit, challenges and corrections are lent. Assumes nothing.
 use mathlib.Core.Path.{◌≡◌, refl, sym, ap, subst, ◌∙◌}
 use mathlib.Core.List.{List}
-use Prim.Native.Nat.{ℕ, ◌+◌, ◌≤◌}
+use Prim.Native.Nat.{ℕ, ◌+◌, ◌*◌, ◌≤◌}
 use native.Mathlib.Omega.{arith}
 use lib.ListN.{length, take, drop}
 use Rattle.sponge.specs.declared.Sponge.{Sponge}
@@ -59,20 +59,22 @@ module _ (P : Params) (salt secret packing first work : List ℕ) (kept : Kept P
   still_held : (c : Circuit) → HoldsCircuit P.n P.m c (take (leaves_at P) first) → HoldsCircuit P.n P.m c (take (leaves_at P) work)
   still_held c held = subst (λ (x : List ℕ). HoldsCircuit P.n P.m c x) (sym kept.circuit) held
 
-  pub answering_more : (count : ℕ) (s r r' : Sponge) → AnsweredTo P salt secret packing first count s r
-      → ((c : Circuit) → HoldsCircuit P.n P.m c (take (leaves_at P) work) → r' ≡ absorbed r (answers_of P c (count + 1) salt secret packing work))
-      → AnsweredTo P salt secret packing first (count + 1) s r'
-  answering_more count s r r' done turn c held = one_more c count s r r' (done c held) (turn c (still_held c held))
+  pub answering_more : (count next : ℕ) (s r r' : Sponge) → next ≡ count + 1 → AnsweredTo P salt secret packing first count s r
+      → ((c : Circuit) → HoldsCircuit P.n P.m c (take (leaves_at P) work) → r' ≡ absorbed r (answers_of P c next salt secret packing work))
+      → AnsweredTo P salt secret packing first next s r'
+  answering_more count next s r r' e done turn c held =
+      subst (λ (k : ℕ). r' ≡ absorbed r (answers_of P c k salt secret packing work) → Absorbing s r' (answers_up_to P c salt secret packing first k) k) (sym e)
+      (one_more c count s r r' (done c held)) (turn c (still_held c held))
 
-  pub answering_two : (count : ℕ) (s r r' : Sponge) → AnsweredTo P salt secret packing first count s r
+  pub answering_two : (pair : ℕ) (s r r' : Sponge) → AnsweredTo P salt secret packing first (2 * pair) s r
       → ((c : Circuit) → HoldsCircuit P.n P.m c (take (leaves_at P) work)
-      → r' ≡ absorbed (absorbed r (answers_of P c (count + 1) salt secret packing work)) (answers_of P c (count + 1 + 1) salt secret packing work))
-      → AnsweredTo P salt secret packing first (count + 2) s r'
-  answering_two count s r r' done turn c held =
-      let e : count + 1 + 1 ≡ count + 2 = omega arith in
-      let between = absorbed r (answers_of P c (count + 1) salt secret packing work) in
+      → r' ≡ absorbed (absorbed r (answers_of P c (2 * pair + 1) salt secret packing work)) (answers_of P c (2 * pair + 1 + 1) salt secret packing work))
+      → AnsweredTo P salt secret packing first (2 * (pair + 1)) s r'
+  answering_two pair s r r' done turn c held =
+      let e : 2 * pair + 1 + 1 ≡ 2 * (pair + 1) = omega arith in
+      let between = absorbed r (answers_of P c (2 * pair + 1) salt secret packing work) in
       subst (λ (k : ℕ). Absorbing s r' (answers_up_to P c salt secret packing first k) k) e
-      (one_more c (count + 1) s between r' (one_more c count s r between (done c held) refl) (turn c (still_held c held)))
+      (one_more c (2 * pair + 1) s between r' (one_more c (2 * pair) s r between (done c held) refl) (turn c (still_held c held)))
 
 pub answered_all : (P : Params) (salt secret packing work : List ℕ) (count : ℕ) (s r : Sponge) → count ≡ P.tau → 1 ≤ P.tau → AnsweredTo P salt secret packing work count s r
     → (c : Circuit) → HoldsCircuit P.n P.m c (take (leaves_at P) work) → r ≡ absorbed s (answers_up_to P c salt secret packing work P.tau)

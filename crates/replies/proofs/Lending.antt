@@ -1,7 +1,7 @@
 -- What the routines of one repetition are lent: their numbers, and the parts of work as the code cuts them. Assumes nothing.
 use mathlib.Core.Path.{◌≡◌, refl, sym, ap, ap₂, subst, ◌∙◌}
 use mathlib.Core.List.{List, ◌++◌, flatten}
-use Prim.Native.Nat.{ℕ, ◌+◌, ◌-◌, ◌*◌, ◌/◌, ◌≤◌}
+use Prim.Native.Nat.{ℕ, ◌+◌, ◌-◌, ◌*◌, ◌/◌, ◌%◌, ◌≤◌, min}
 use native.Mathlib.Omega.{arith}
 use lib.ListN.{length, take, drop, replicate, length-take}
 use lib.Seq.{take-take, drop-drop, take-append-le, drop_at}
@@ -35,6 +35,11 @@ use Rattle.reps.specs.Reps.{rep_of}
 use Rattle.replies.specs.Replies.{values_in, answers_in, alpha_in}
 
 -- ---- the parts of work
+
+-- the bytes of a challenge, as the code counts them
+pub width-packed : (m w : ℕ) → w ≡ m / 2 + min 1 (m % 2) → w ≡ packed_length m
+unfolding packed_length
+width-packed m w h = h ∙ omega arith
 
 -- the challenge of repetition e lies in work
 pub challenge-end : (P : Params) (e w at : ℕ) → Fits P → 1 ≤ e → e ≤ P.tau → w ≡ packed_length P.m → at ≡ challenges_at P → at + (e - 1) * w + w ≤ work_length

@@ -24,11 +24,11 @@ circuit-held P work = refl
 -- the sponge, and what stays of work
 pub answer_pass_settles :
     OneSight answer-pass.Kinds.ps answer-pass.Kinds.r answer-pass.Reads.Asked answer-pass.Reads.Learnt (Sponge × List ℕ × List ℕ)
-    (λ κs a o. (o.0, take (leaves_at a.1.0) o.1.1.1.1.1.1.0, drop (roots_at a.1.0) o.1.1.1.1.1.1.0))
+    (λ κs a o. (o.0, take (leaves_at a.1.0.p) o.1.1.1.1.0, drop (roots_at a.1.0.p) o.1.1.1.1.0))
 answer_pass_settles κs a good asked o q x y =
-    let work = a.1.1.1.1.1.0.now in
-    let c = circuit_of a.1.0 work in
-    let held = circuit-held a.1.0 work in
+    let work = a.1.1.1.0.now in
+    let c = circuit_of a.1.0.p work in
+    let held = circuit-held a.1.0.p work in
     let hashed = x.promised.0 c held ∙ sym (y.promised.0 c held) in
     let circuit = x.promised.1.circuit ∙ sym y.promised.1.circuit in
     let roots = x.promised.1.roots ∙ sym y.promised.1.roots in
@@ -36,7 +36,7 @@ answer_pass_settles κs a good asked o q x y =
 
 pub alpha_pass_one_outcome : OneOutcome alpha-pass.Kinds.ps alpha-pass.Kinds.r alpha-pass.Reads.Asked alpha-pass.Reads.Learnt
 alpha_pass_one_outcome κs a good asked o q x y =
-    let work = a.1.1.1.1.1.0.now in
-    let c = circuit_of a.0 work in
-    let held = circuit-held a.0 work in
-    ap (λ (b : List ℕ). (tt, (tt, (tt, (tt, (tt, (b, (tt, tt)))))))) (x.promised c held ∙ sym (y.promised c held))
+    let work = a.1.1.1.0.now in
+    let c = circuit_of a.0.p work in
+    let held = circuit-held a.0.p work in
+    ap (λ (b : List ℕ). (tt, (tt, (tt, (b, (tt, tt)))))) (x.promised c held ∙ sym (y.promised c held))

@@ -4,8 +4,7 @@ use mathlib.Core.List.{List, flatten}
 use Prim.Native.Nat.{ℕ, ◌-◌, ◌*◌, ◌≤◌}
 use native.Mathlib.Omega.{arith}
 use lib.ListN.{length, take, drop}
-use Rattle.memory.specs.Lists.{over, put}
-use Rattle.memory.proofs.Stores.{over-whole}
+use Rattle.memory.specs.Lists.{put}
 use Rattle.sponge.specs.declared.Sponge.{Sponge}
 use Rattle.sponge.specs.Steps.{absorbed}
 use Rattle.sets.specs.Sets.{S}
@@ -19,7 +18,7 @@ use Rattle.biscuit.specs.Room.{Fits, LayoutOf, groups, leaves_at, roots_at, chal
 use Rattle.biscuit.specs.declared.Layout.{Layout}
 use Rattle.biscuit.proofs.Room.{mapped, behind-roots}
 use Rattle.passes.specs.Passes.{seeds_in, Kept}
-use Rattle.passes.proofs.Planting.{planted_part, planted_leaves, planted_kept, length_planted}
+use Rattle.passes.proofs.Planting.{planted_part, planted_leaves, planted_kept}
 use Rattle.passes.proofs.Committing.{kept_same, kept_more}
 use Rattle.reps.specs.Reps.{rep_of}
 use Rattle.replies.specs.Replies.{values_in, answers_in, answers_of}
@@ -84,11 +83,8 @@ module _ (P : Params) (f : Fits P) (salt work : List ℕ) (whole : length work �
   pub kept-beside : Kept P work last
   kept-beside = kept_more P work planted last kept-first (kept_same P planted _ _ second (planted_kept P f salt planted size next from' to'))
 
-  copied_leaves : (room leaves : List ℕ) → length room ≡ 16 * groups P * S P → leaves ≡ over (take (map.room - map.leaves) (drop map.leaves planted)) room
-      → leaves ≡ flatten (seeds_in P salt (drop (roots_at P) work) e)
-  copied_leaves room leaves h k =
-      let part = planted_part P f salt work whole e from to map planted laid first in
-      k ∙ over-whole (take (map.room - map.leaves) (drop map.leaves planted)) room (ap length part ∙ length_planted P f salt work whole e from to ∙ sym h) ∙ part
+  copied_leaves : take (map.room - map.leaves) (drop map.leaves planted) ≡ flatten (seeds_in P salt (drop (roots_at P) work) e)
+  copied_leaves = planted_part P f salt work whole e from to map planted laid first
 
   last-leaves : take (16 * groups P * S P) (drop (leaves_at P) last) ≡ flatten (seeds_in P salt (drop (roots_at P) work) next)
   last-leaves =
@@ -97,14 +93,14 @@ module _ (P : Params) (f : Fits P) (salt work : List ℕ) (whole : length work �
       ∙ ap (λ (r : List ℕ). flatten (seeds_in P salt r next)) kept-first.roots
 
   -- both, seen from work before
-  pub answered-beside : (hash r : Sponge) (secret packing values more room leaves : List ℕ)
+  pub answered-beside : (hash r : Sponge) (secret packing values more leaves : List ℕ)
       → values ≡ values_in P e secret packing (drop (challenges_at P) work) → more ≡ values_in P next secret packing (drop (challenges_at P) work)
-      → length room ≡ 16 * groups P * S P → leaves ≡ over (take (map.room - map.leaves) (drop map.leaves planted)) room
+      → leaves ≡ take (map.room - map.leaves) (drop map.leaves planted)
       → ((c : Circuit) → HoldsCircuit P.n P.m c (take (leaves_at P) last)
       → r ≡ absorbed (absorbed hash (answers_in P c e salt values leaves)) (answers_in P c next salt more (take (16 * groups P * S P) (drop (leaves_at P) last))))
       → (c : Circuit) → HoldsCircuit P.n P.m c (take (leaves_at P) work)
       → r ≡ absorbed (absorbed hash (answers_of P c e salt secret packing work)) (answers_of P c next salt secret packing work)
-  answered-beside hash r secret packing values more room leaves ev em h el k c held =
+  answered-beside hash r secret packing values more leaves ev em el k c held =
       k c (subst (λ (x : List ℕ). HoldsCircuit P.n P.m c x) (sym kept-beside.circuit) held)
-      ∙ ap₂ (λ (v l : List ℕ). absorbed (absorbed hash (answers_in P c e salt v l)) (answers_in P c next salt more (take (16 * groups P * S P) (drop (leaves_at P) last)))) ev (copied_leaves room leaves h el)
+      ∙ ap₂ (λ (v l : List ℕ). absorbed (absorbed hash (answers_in P c e salt v l)) (answers_in P c next salt more (take (16 * groups P * S P) (drop (leaves_at P) last)))) ev (el ∙ copied_leaves)
       ∙ ap₂ (λ (v l : List ℕ). absorbed (absorbed hash (answers_of P c e salt secret packing work)) (answers_in P c next salt v l)) em last-leaves

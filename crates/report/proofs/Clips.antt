@@ -1,24 +1,22 @@
 -- What the clip program says: every line has room in sixteen bytes; an input that is cut behind 65,536 bytes has the line of the whole. Assumes nothing.
 use mathlib.Core.Path.{◌≡◌, refl, sym, ap, ◌∙◌, subst}
-use mathlib.Core.Bool.{Bool, true, false, cond}
 use mathlib.Core.List.{List, [], ◌∷◌}
-use Prim.Native.Nat.{ℕ, ◌-◌, ◌≤◌, ◌<◌, min}
+use Prim.Native.Nat.{ℕ, ◌≤◌, ◌<◌, min}
 use native.Mathlib.Nat.{min-eq_left, min-eq_right}
 use native.Mathlib.Omega.{arith}
 use native.Mathlib.Decide.{dec_le, dec_lt, ℕ_discrete}
-use lib.Dec.{ltb}
-use lib.ListN.{length, take, drop}
+use lib.ListN.{length, take}
 use lib.Seq.{take_all}
+use Rattle.std.proofs.lemmas.Bool.Decides.{nat_tests}
 use Rattle.field.specs.Packing.{packed_length}
 use Rattle.sets.specs.Sets.{S, rows, params_of, public_key_length, signature_length}
-use Rattle.refusals.specs.Refusals.{message_limit, bad_set, differs, or_else}
-use Rattle.refusals.proofs.Refusals.{or_else_right, or_else_refused, or_else-done}
+use Rattle.refusals.specs.Refusals.{bad_set, differs, or_else}
+use Rattle.refusals.proofs.Refusals.{or_else_refused, or_else-done}
 use Rattle.envelope.specs.Bits.{bits, spelled, bits_of, field}
-use Rattle.envelope.specs.Envelope.{header_length, the_version, header_of, placed, header_number, read_number, key_bytes, signature_bytes, message_bytes}
+use Rattle.envelope.specs.Envelope.{header_of, header_number, read_number, key_bytes, signature_bytes, message_bytes}
 use Rattle.envelope.proofs.Cut.{cut_reads_alike}
 use Rattle.envelope.proofs.Sizes.{longest, read_right, legal_at_most}
 use Rattle.biscuit.specs.Desk.{accept_number}
-use Rattle.biscuit.specs.Verify.{accepts}
 use Rattle.report.specs.Decimal.{last_digits, decimal}
 use Rattle.report.specs.Report.{refused_word, refused_line, said, clip_number, clip_line}
 use Rattle.report.proofs.Lines.{refused_fits, genuine_fits}
@@ -26,33 +24,9 @@ use Rattle.report.proofs.Outcomes.{said_genuine, said_refused}
 
 -- ---- numbers
 
-either_small : (first rest : ℕ) → first < 256 → rest < 256 → or_else first rest < 256
-either_small first rest f r =
-    elim (ℕ_discrete first 0) as (λ d. or_else first rest < 256) [
-      | yes y ↦ (let e = or_else_right first rest y in omega arith)
-      | no n ↦ (let e = or_else_refused first rest n in omega arith)
-    ]
-
-cond_small : (b : Bool) (k rest : ℕ) → k < 256 → rest < 256 → cond b k rest < 256
-cond_small true k rest h g = h
-cond_small false k rest h g = g
-
-read_small : (e : List ℕ) → read_number e < 256
-unfolding read_number header_number
-read_small e =
-    cond_small (ltb (length e) header_length) 10 _ (omega arith)
-    (cond_small (differs (header_of e).version the_version) 11 _ (omega arith)
-    (cond_small (bad_set (header_of e).set) 1 _ (omega arith)
-    (cond_small (ltb message_limit (header_of e).length) 3 _ (omega arith)
-    (cond_small (differs (length e) (placed (header_of e)).end) 10 0 (omega arith) (omega arith)))))
-
-accept_small : (set : ℕ) (pk msg sig : List ℕ) → accept_number set pk msg sig < 256
-unfolding accept_number
-accept_small set pk msg sig = cond_small (accepts (params_of set) pk msg sig) 0 9 (omega arith) (omega arith)
-
 clip_small : (e : List ℕ) → clip_number e < 256
-unfolding clip_number
-clip_small e = either_small (read_number e) _ (read_small e) (accept_small (header_of e).set (key_bytes e) (message_bytes e) (signature_bytes e))
+unfolding clip_number or_else read_number header_number accept_number
+clip_small e = grind (arith, nat_tests)
 
 clip_read : (e : List ℕ) → clip_number e ≡ 0 → read_number e ≡ 0
 unfolding clip_number
@@ -75,14 +49,13 @@ line_fits e =
 -- ---- an input that is cut
 
 -- the part that is read of a list: its first n entries, or all of them where n is more
-pub part_read : (n end most : ℕ) (l : List ℕ) → length l ≡ most → end ≡ min n most → take (end - 0) (drop 0 l) ≡ take n l
+pub part_read : (n end most : ℕ) (l : List ℕ) → length l ≡ most → end ≡ min n most → take end l ≡ take n l
 part_read n end most l size e =
-    elim (dec_le n most) as (λ d. take (end - 0) (drop 0 l) ≡ take n l) [
+    elim (dec_le n most) as (λ d. take end l ≡ take n l) [
       | yes h ↦ (let m = e ∙ min-eq_left h in
-          let s : end - 0 ≡ n = omega arith in
-          ap (λ (k : ℕ). take k l) s)
+          ap (λ (k : ℕ). take k l) m)
       | no h ↦ (let m = e ∙ min-eq_right {n = most} {m = n} (omega arith) in
-          take_all (end - 0) l (omega arith) ∙ sym (take_all n l (omega arith)))
+          take_all end l (omega arith) ∙ sym (take_all n l (omega arith)))
     ]
 
 -- "It reads at most 65,536 bytes; a longer input is still longer than any legal envelope": what is cut behind that many bytes has the line of the whole.

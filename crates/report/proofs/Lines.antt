@@ -2,12 +2,12 @@
 -- Assumes nothing.
 use mathlib.Core.Path.{◌≡◌, sym, ap, ap₂, ◌∙◌}
 use mathlib.Core.List.{List, ◌++◌, append_assoc}
-use Prim.Native.Nat.{ℕ, ◌+◌, ◌-◌, ◌≤◌, ◌<◌}
-use native.Mathlib.Nat.{sub-zero, zero-add}
+use Prim.Native.Nat.{ℕ, ◌+◌, ◌≤◌, ◌<◌}
+use native.Mathlib.Nat.{zero-add}
 use native.Mathlib.Omega.{arith}
-use lib.ListN.{length, take, length-append}
+use lib.ListN.{length, length-append}
 use Rattle.memory.specs.Lists.{over, put}
-use Rattle.memory.proofs.Parts.{mid_put, put_next}
+use Rattle.memory.proofs.Parts.{put_next, over-put}
 use Rattle.envelope.specs.declared.Header.{Header}
 use Rattle.report.specs.Decimal.{decimal}
 use Rattle.report.specs.Report.{genuine_word, refused_word, space, line_end, genuine_line, refused_line}
@@ -68,8 +68,10 @@ module _ (text : List ℕ) (h : Header) (room : length (genuine_line h) ≤ leng
       let fifth = put_on text t₄ (((genuine_word ++ decimal h.set) ++ space) ++ decimal h.length) line_end t₅ i₄ fourth (simp length-append (omega arith)) (omega arith) p₅ in
       (omega arith, fifth ∙ ap (put text 0) (simp append_assoc))
 
--- ---- a line that was laid out in a text of its own, copied over the lent one
+-- ---- a line that is put where it is written over the start
 
-pub laid_copied : (text new t line : List ℕ) (n : ℕ) → n ≡ length new → length new ≤ length text → t ≡ put text 0 new → over (take (n - 0) t) line ≡ over new line
-laid_copied text new t line n e h p =
-    ap (λ (x : List ℕ). over x line) (ap₂ take (sub-zero n ∙ e) p ∙ mid_put text 0 new (omega arith))
+pub put_over : (text new before after : List ℕ) (n : ℕ) → text ≡ new → length text ≤ length before → n ≡ length new → after ≡ put before 0 new
+    → (n ≡ length text) × (after ≡ over text before)
+put_over text new before after n e room c p =
+    let size = ap length e in
+    (c ∙ sym size, p ∙ sym (over-put new before (omega arith)) ∙ ap (λ (x : List ℕ). over x before) (sym e))

@@ -8,8 +8,7 @@ use lib.ListN.{length, take, replicate, length-replicate}
 use Rattle.sets.specs.Sets.{params_of, secret_key_length, public_key_length, signature_length}
 use Rattle.refusals.specs.Refusals.{work_length}
 use Rattle.envelope.specs.declared.Header.{Header}
-use Rattle.envelope.specs.declared.Reading.{Reading}
-use Rattle.envelope.specs.Envelope.{the_version, header, header_of, placed, WriteOutcome, write_outcome, read_number, read_outcome, key_bytes, signature_bytes, message_bytes, Lent, key_in, signature_in, message_in}
+use Rattle.envelope.specs.Envelope.{Reading, the_version, header, header_of, placed, WriteOutcome, write_outcome, read_number, read_outcome, key_bytes, signature_bytes, message_bytes, Lent, key_in, signature_in, message_in}
 use Rattle.envelope.proofs.Outcomes.{told_number, told_header, key_told, signature_told, message_told}
 use Rattle.envelope.proofs.RoundTrip.{read_what_was_written}
 use Rattle.biscuit.specs.Keys.{public_half}

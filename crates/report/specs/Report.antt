@@ -1,7 +1,8 @@
 -- What the clip program says of the bytes that it has read (document 01, "The clip envelope"): one line, `genuine S L` or `refused R`.
 -- Assumes nothing.
-use Rattle.std.specs.Prelude.{cond, List, [], ◌∷◌, ◌++◌, ℕ, eqb}
-use Rattle.refusals.specs.Refusals.{done, or_else}
+use Rattle.std.specs.Prelude.{cond, List, [], ◌∷◌, ◌++◌, ℕ, eqb, Result, Ok, Err}
+use Rattle.refusals.specs.Refusals.{done, or_else, refusal_number}
+use Rattle.refusals.specs.declared.Refusal.{Refusal}
 use Rattle.envelope.specs.declared.Header.{Header}
 use Rattle.envelope.specs.Envelope.{header_of, read_number, key_bytes, signature_bytes, message_bytes}
 use Rattle.biscuit.specs.Desk.{accept_number}
@@ -35,6 +36,11 @@ refused_line number = refused_word ++ (decimal number ++ line_end)
 -- the line for a number, and for the header that was read
 unfoldable pub said : ℕ → Header → List ℕ
 said number h = cond (eqb number done) (genuine_line h) (refused_line number)
+
+-- the line for an answer: the header of a genuine clip, or why it is refused
+abbrev pub answer_line : Result Header Refusal → List ℕ
+answer_line (Ok h) = genuine_line h
+answer_line (Err refusal) = refused_line (refusal_number refusal)
 
 -- ---- the clip program: reading, "the program's verification follows"
 

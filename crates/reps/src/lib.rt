@@ -17,13 +17,12 @@ pub fn rep_of(p: Params, e: usize, hidden: usize) -> Rep
     requires { Fits p }
     ensures { result ≡ rep_of p e hidden }
 {
-    let groups = biscuit::groups_of(p);
     Rep {
         s: p.bits / 8,
         n: p.n,
         m: p.m,
-        e: e,
-        hidden: hidden,
-        groups: groups,
+        e,
+        hidden,
+        groups: biscuit::groups_of(p),
     }
 }

@@ -1,16 +1,16 @@
 -- What holds of every set: the sizes of document 01's table follow from the formulas, and the parameters lie within bounds that later crates lean on.
 -- Assumes nothing.
-use mathlib.Core.Path.{◌≡◌, refl, sym}
-use mathlib.Core.List.{List, [], ◌∷◌}
+use mathlib.Core.Path.{◌≡◌, refl, sym, ap, ◌∙◌}
 use Prim.Native.Nat.{ℕ, zero, suc, ◌≤◌, ◌<◌}
 use native.Mathlib.Omega.{arith}
 use native.Mathlib.Decide.{dec_lt}
 use lib.Dec.{lit≤, lit<}
 use lib.ListN.{get_or, get_or-eq_default}
-use Rattle.memory.proofs.Every.{same_entries}
 use Rattle.field.specs.Packing.{packed_length}
 use Rattle.sets.specs.declared.Params.{Params}
-use Rattle.sets.specs.Sets.{row, rows, params_of, S, N, secret_key_length, public_key_length, signature_length}
+use Rattle.sets.specs.declared.Row.{Row}
+use Rattle.sets.specs.declared.TheConstants.{SETS}
+use Rattle.sets.specs.Sets.{row, rows, params_of, S, N, RowOf, secret_key_length, public_key_length, signature_length}
 
 -- what holds of the seven rows holds of every row
 pub each_row : (P : ℕ → Type 0) → P 0 → P 1 → P 2 → P 3 → P 4 → P 5 → P 6 → (i : ℕ) → i < 7 → P i
@@ -87,39 +87,32 @@ bounded =
     (within _ (lit≤ tt) (lit≤ tt) (lit≤ tt) (lit≤ tt) (lit≤ tt))
     (within _ (lit≤ tt) (lit≤ tt) (lit≤ tt) (lit≤ tt) (lit≤ tt)))
 
--- ---- the tables of the code hold what the specification says, at each row
+-- ---- the table of the code holds what the specification says, at each row
 
-abbrev pub secret_key_column : List ℕ
-secret_key_column = 0 ∷ 115 ∷ 115 ∷ 158 ∷ 158 ∷ 212 ∷ 212 ∷ []
+pub table_row : (i : ℕ) (blank : Row) → i < 7 → RowOf i (get_or SETS i blank)
+unfolding secret_key_length public_key_length signature_length S packed_length params_of rows
+table_row i blank h =
+    each_row (λ (i : ℕ). RowOf i (get_or SETS i blank))
+    (record { params = refl; secret_key = refl; public_key = refl; signature = refl })
+    (record { params = refl; secret_key = refl; public_key = refl; signature = refl })
+    (record { params = refl; secret_key = refl; public_key = refl; signature = refl })
+    (record { params = refl; secret_key = refl; public_key = refl; signature = refl })
+    (record { params = refl; secret_key = refl; public_key = refl; signature = refl })
+    (record { params = refl; secret_key = refl; public_key = refl; signature = refl })
+    (record { params = refl; secret_key = refl; public_key = refl; signature = refl })
+    i h
 
-abbrev pub public_key_column : List ℕ
-public_key_column = 0 ∷ 50 ∷ 50 ∷ 69 ∷ 69 ∷ 93 ∷ 93 ∷ []
+-- a number past the table has the row of number 0
+abbrev pub blank : Row
+blank = record { params = row 0 0 0 0 0; secret_key = 0; public_key = 0; signature = 0 }
 
-abbrev pub signature_column : List ℕ
-signature_column = 0 ∷ 4758 ∷ 6726 ∷ 11349 ∷ 15129 ∷ 20192 ∷ 27348 ∷ []
-
-pub secret_keys : (i : ℕ) → i < 7 → get_or secret_key_column i 0 ≡ secret_key_length (params_of i)
-unfolding secret_key_length S packed_length params_of rows
-secret_keys = same_entries secret_key_column (λ (i : ℕ). secret_key_length (params_of i)) tt
-
-pub public_keys : (i : ℕ) → i < 7 → get_or public_key_column i 0 ≡ public_key_length (params_of i)
-unfolding public_key_length S packed_length params_of rows
-public_keys = same_entries public_key_column (λ (i : ℕ). public_key_length (params_of i)) tt
-
-pub signatures : (i : ℕ) → i < 7 → get_or signature_column i 0 ≡ signature_length (params_of i)
-unfolding signature_length S packed_length params_of rows
-signatures = same_entries signature_column (λ (i : ℕ). signature_length (params_of i)) tt
-
--- the parameters read off the columns
-abbrev pub in_columns : ℕ → Params
-in_columns i =
-    row
-    (get_or (0 ∷ 128 ∷ 128 ∷ 192 ∷ 192 ∷ 256 ∷ 256 ∷ []) i 0)
-    (get_or (0 ∷ 64 ∷ 64 ∷ 87 ∷ 87 ∷ 118 ∷ 118 ∷ []) i 0)
-    (get_or (0 ∷ 67 ∷ 67 ∷ 90 ∷ 90 ∷ 121 ∷ 121 ∷ []) i 0)
-    (get_or (0 ∷ 18 ∷ 34 ∷ 30 ∷ 54 ∷ 40 ∷ 73 ∷ []) i 0)
-    (get_or (0 ∷ 8 ∷ 4 ∷ 8 ∷ 4 ∷ 8 ∷ 4 ∷ []) i 0)
-
-pub columns : (i : ℕ) → i < 7 → in_columns i ≡ params_of i
-unfolding params_of rows
-columns = each_row (λ (i : ℕ). in_columns i ≡ params_of i) refl refl refl refl refl refl refl
+pub no_such_row : (set : ℕ) → 7 ≤ set → RowOf set blank
+no_such_row set h =
+    let e = no_such_set_lem set h in
+    let r = table_row 0 blank (lit< tt) in
+    record {
+      params = r.params ∙ e;
+      secret_key = r.secret_key ∙ ap secret_key_length e;
+      public_key = r.public_key ∙ ap public_key_length e;
+      signature = r.signature ∙ ap signature_length e;
+    }

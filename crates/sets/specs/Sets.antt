@@ -1,7 +1,8 @@
 -- The six sets of document 01 (tables 3 and 4 of the submission), and the sizes that follow from a set's parameters.
 -- A set's number picks the parameters here and nowhere else; q is 16 throughout. Assumes nothing.
-use Rattle.std.specs.Prelude.{List, [], ◌∷◌, ◌≡◌, ℕ, ◌+◌, ◌*◌, ◌/◌, ◌^◌, ◌<◌, get_or}
+use Rattle.std.specs.Prelude.{List, [], ◌∷◌, ◌≡◌, ℕ, ◌+◌, ◌*◌, ◌/◌, ◌^◌, get_or}
 use Rattle.sets.specs.declared.Params.{Params}
+use Rattle.sets.specs.declared.Row.{Row}
 use Rattle.field.specs.Packing.{packed_length}
 
 -- one row: security bits, n, m, τ, and L, whose power of 2 is N
@@ -47,7 +48,9 @@ signature_length P =
     2 * S P + 2 * S P + 2 * S P + P.tau * (P.l * S P + 2 * S P)
     + packed_length (P.tau * (P.n + P.m) + P.tau * P.m)
 
--- the row of the tables for a number
-pub record RowOf (set row : ℕ) : Type 0 where
-  pub below : row < 7
-  pub same : params_of row ≡ params_of set
+-- the row that the table has for a number
+pub record RowOf (set : ℕ) (row : Row) : Type 0 where
+  pub params : row.params ≡ params_of set
+  pub secret_key : row.secret_key ≡ secret_key_length (params_of set)
+  pub public_key : row.public_key ≡ public_key_length (params_of set)
+  pub signature : row.signature ≡ signature_length (params_of set)

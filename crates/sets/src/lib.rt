@@ -16,34 +16,36 @@ pub struct Params {
     pub l: usize,
 }
 
-// How many entries a table has: the six sets, and one of zeros in front.
-const ROWS: usize = 7;
+// What the table holds of a set: its parameters, and the bytes of its keys and signature.
+#[derive(Clone, Copy)]
+struct Row {
+    params: Params,
+    secret_key: usize,
+    public_key: usize,
+    signature: usize,
+}
 
-const BITS: [usize; 7] = [0, 128, 128, 192, 192, 256, 256];
-
-const VARIABLES: [usize; 7] = [0, 64, 64, 87, 87, 118, 118];
-
-const EQUATIONS: [usize; 7] = [0, 67, 67, 90, 90, 121, 121];
-
-const REPETITIONS: [usize; 7] = [0, 18, 34, 30, 54, 40, 73];
-
-const LEVELS: [usize; 7] = [0, 8, 4, 8, 4, 8, 4];
-
-const SECRET_KEYS: [usize; 7] = [0, 115, 115, 158, 158, 212, 212];
-
-const PUBLIC_KEYS: [usize; 7] = [0, 50, 50, 69, 69, 93, 93];
-
-const SIGNATURES: [usize; 7] = [0, 4758, 6726, 11349, 15129, 20192, 27348];
+// The six sets, and a row of zeros in front.
+#[rattlefmt::skip]
+const SETS: [Row; 7] = [
+    Row { params: Params { bits: 0, n: 0, m: 0, tau: 0, l: 0 }, secret_key: 0, public_key: 0, signature: 0 },
+    Row { params: Params { bits: 128, n: 64, m: 67, tau: 18, l: 8 }, secret_key: 115, public_key: 50, signature: 4758 },
+    Row { params: Params { bits: 128, n: 64, m: 67, tau: 34, l: 4 }, secret_key: 115, public_key: 50, signature: 6726 },
+    Row { params: Params { bits: 192, n: 87, m: 90, tau: 30, l: 8 }, secret_key: 158, public_key: 69, signature: 11349 },
+    Row { params: Params { bits: 192, n: 87, m: 90, tau: 54, l: 4 }, secret_key: 158, public_key: 69, signature: 15129 },
+    Row { params: Params { bits: 256, n: 118, m: 121, tau: 40, l: 8 }, secret_key: 212, public_key: 93, signature: 20192 },
+    Row { params: Params { bits: 256, n: 118, m: 121, tau: 73, l: 4 }, secret_key: 212, public_key: 93, signature: 27348 },
+];
 
 // The most that a set has, which is what the last has: room for these is room for every set.
-pub const MOST_VARIABLES: usize = VARIABLES[ROWS - 1];
+pub const MOST_VARIABLES: usize = SETS[6].params.n;
 
-pub const MOST_EQUATIONS: usize = EQUATIONS[ROWS - 1];
+pub const MOST_EQUATIONS: usize = SETS[6].params.m;
 
-pub const MOST_REPETITIONS: usize = REPETITIONS[ROWS - 1];
+pub const MOST_REPETITIONS: usize = SETS[6].params.tau;
 
 // The bytes of the longest seed, and of the longest salt, hash or commitment, which have two seeds' length.
-pub const LONGEST_SEED: usize = BITS[ROWS - 1] / 8;
+pub const LONGEST_SEED: usize = SETS[6].params.bits / 8;
 
 pub const LONGEST_HASH: usize = 2 * LONGEST_SEED;
 
@@ -51,40 +53,33 @@ pub const LONGEST_HASH: usize = 2 * LONGEST_SEED;
 pub fn params_of(set: usize) -> Params
     ensures { result ≡ params_of set }
 {
-    let row = row_of(set);
-    Params {
-        bits: BITS[row],
-        n: VARIABLES[row],
-        m: EQUATIONS[row],
-        tau: REPETITIONS[row],
-        l: LEVELS[row],
-    }
+    row_of(set).params
 }
 
 // The bytes of a secret key of a set.
 pub fn secret_key_len(set: usize) -> usize
     ensures { result ≡ secret_key_length (params_of set) }
 {
-    SECRET_KEYS[row_of(set)]
+    row_of(set).secret_key
 }
 
 // The bytes of a public key of a set.
 pub fn public_key_len(set: usize) -> usize
     ensures { result ≡ public_key_length (params_of set) }
 {
-    PUBLIC_KEYS[row_of(set)]
+    row_of(set).public_key
 }
 
 // The bytes of a signature of a set.
 pub fn signature_len(set: usize) -> usize
     ensures { result ≡ signature_length (params_of set) }
 {
-    SIGNATURES[row_of(set)]
+    row_of(set).signature
 }
 
-// The row of the tables for a number: 0 where it names no set.
-fn row_of(set: usize) -> usize
+// The row of a set; that of zeros where the number names none.
+fn row_of(set: usize) -> Row
     ensures { RowOf set result }
 {
-    if set < ROWS { set } else { 0 }
+    if set < SETS.len() { SETS[set] } else { SETS[0] }
 }

@@ -6,10 +6,10 @@ use Prim.Native.Nat.{ℕ, ◌+◌, ◌-◌, ◌*◌, ◌%◌, ◌≤◌}
 use native.Mathlib.Nat.{zero-add}
 use native.Mathlib.Omega.{arith}
 use lib.Dec.{eqb}
-use lib.ListN.{length, get_or, length-append}
+use lib.ListN.{length, get_or, take, drop, length-append}
 use borrow.Author.Tests.{ne_eqb}
 use Rattle.memory.specs.Lists.{put}
-use Rattle.memory.proofs.Parts.{put_next}
+use Rattle.memory.proofs.Parts.{put_next, lent-put}
 use Rattle.memory.proofs.Lists.{table_of}
 use Rattle.memory.proofs.Stands.{StandsAt, stands_self, stands_joined, stands_same, part_stands}
 use Rattle.field.specs.Packing.{Bytes, pack, packed_length, unpack}
@@ -90,6 +90,10 @@ module _ (P : Params) (σ : Signature) (packing : List ℕ) (size : length packi
   packing_written =
       sym (pack-unpack-even (vector_count P) packing even bytes size)
       ∙ ap pack (stands_same all 0 all (vectors P σ) (count ∙ sym (all_vectors P σ length_pair length-hidden)) (stands_self all) vectors_stand)
+
+-- a part that was overwritten whole
+pub copied : (x : List ℕ) (a e : ℕ) (src new : List ℕ) → length src ≡ e - a → new ≡ src → take a x ++ (new ++ drop (e - a) (drop a x)) ≡ put x a src
+copied x a e src new h n = ap (λ (l : List ℕ). take a x ++ (l ++ drop (e - a) (drop a x))) n ∙ lent-put x a e src h
 
 -- three parts copied one behind the other to the start
 pub three_copied : (x u v w x₁ x₂ x₃ : List ℕ) (a b : ℕ) → length u + length v + length w ≤ length x → a ≡ length u → b ≡ a + length v

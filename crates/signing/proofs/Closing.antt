@@ -1,9 +1,9 @@
 -- Salt and hashes in front of what is opened: the signature is whole. Assumes nothing.
 use mathlib.Core.Path.{◌≡◌, refl, sym, ap, ap₂, ◌∙◌, subst}
-use mathlib.Core.List.{List, ◌++◌, append_assoc, append-nil}
+use mathlib.Core.List.{List, ◌++◌, append_assoc}
 use Prim.Native.Nat.{ℕ, ◌+◌, ◌-◌, ◌*◌, ◌≤◌}
 use native.Mathlib.Omega.{arith}
-use lib.ListN.{length, take, drop, length-append, drop_of_length-le}
+use lib.ListN.{length, take, drop, length-append}
 use lib.Seq.{take_at, take_all}
 use Rattle.memory.specs.Lists.{put}
 use Rattle.memory.proofs.Parts.{length-put, from_put, lent-put, length-lent}
@@ -19,7 +19,7 @@ use Rattle.biscuit.proofs.Parts.{drop-behind-put}
 use Rattle.passes.specs.Passes.{HoldsRoots}
 use Rattle.replies.specs.Replies.{Challenged, HoldsHidden}
 use Rattle.replies.proofs.Expanded.{hidden_expanded}
-use Rattle.signing.specs.Signing.{HoldsSigner, HoldsHashes}
+use Rattle.signing.specs.Signing.{HoldsHashes}
 use Rattle.signing.proofs.Assembling.{sections_written}
 use Rattle.signing.proofs.Sizes.{sections}
 
@@ -33,9 +33,6 @@ module _ (P : Params) (fits : Fits P) where
 
     head_room : 0 + length (salt ++ (h1 ++ h2)) ≤ length x
     head_room = let k = sections P in let s = head_size in let b = k.body in let w = k.whole in omega arith
-
-    pub headed_size : (y : List ℕ) → y ≡ put x 0 (salt ++ (h1 ++ h2)) → length y ≡ signature_length P
-    headed_size y e = ap length e ∙ length-put x 0 (salt ++ (h1 ++ h2)) head_room ∙ size
 
     packing_behind : drop (packing_at P) (put x 0 (salt ++ (h1 ++ h2))) ≡ drop (packing_at P) x
     packing_behind = let s = head_size in let b = (sections P).body in drop-behind-put x 0 (salt ++ (h1 ++ h2)) (packing_at P) head_room (omega arith)
@@ -83,21 +80,3 @@ module _ (P : Params) (x : List ℕ) (size : length x ≡ signature_length P) (a
 
     pub packed_size : length (take a x ++ (q ++ drop (e - a) (drop a x))) ≡ signature_length P
     packed_size = ap length packed_put ∙ length-put x a q packed_room ∙ size
-
-    packed_behind : drop (packing_at P) (take a x ++ (q ++ drop (e - a) (drop a x))) ≡ q
-    packed_behind =
-        let w = (sections P).whole in
-        let n = packing_part in
-        ap (λ (k : ℕ). drop k (take a x ++ (q ++ drop (e - a) (drop a x)))) (sym at)
-        ∙ ap (drop a) packed_put
-        ∙ from_put x a q packed_room
-        ∙ ap (λ (v : List ℕ). q ++ v) (drop_of_length-le x {i = a + length q} (omega arith))
-        ∙ append-nil q
-
-    -- from the promises of both halves
-    pub hashed-written : (msg salt secret h1 h2 w v z : List ℕ)
-        → ((signer : Signer) → HoldsSigner P signer salt secret w → HoldsHashes P signer msg salt secret h1 h2 q v)
-        → ((signer : Signer) (msg : List ℕ) → HoldsHashes P signer msg salt secret h1 h2 (drop (packing_at P) (take a x ++ (q ++ drop (e - a) (drop a x)))) v → z ≡ written P (signed P signer msg))
-        → (signer : Signer) → HoldsSigner P signer salt secret w → z ≡ written P (signed P signer msg)
-    hashed-written msg salt secret h1 h2 w v z commits opens signer held =
-        opens signer msg (subst (λ (l : List ℕ). HoldsHashes P signer msg salt secret h1 h2 l v) (sym packed_behind) (commits signer held))

@@ -3,7 +3,7 @@ pub mod Assembling
 pub mod Closing
 pub mod Drawing
 pub mod Keyed
-pub mod OneOutcome
 pub mod Opening
 pub mod Rooted
 pub mod Sizes
+pub mod OneOutcome

@@ -5,10 +5,8 @@ use native.Mathlib.Omega.{arith}
 use Rattle.field.specs.Packing.{packed_length}
 use Rattle.sets.specs.Sets.{S, signature_length}
 use Rattle.sets.specs.declared.Params.{Params}
-use Rattle.refusals.specs.Refusals.{work_length}
-use Rattle.biscuit.specs.Room.{Fits, roots_at, challenges_at, room_end}
+use Rattle.biscuit.specs.Room.{Fits}
 use Rattle.biscuit.specs.Signature.{head_length, shown_length, packing_at, vector_count}
-use Rattle.biscuit.proofs.Room.{mapped}
 
 module _ (P : Params) (f : Fits P) where
   pub seed_small : P.bits / 8 ≤ 32
@@ -35,16 +33,10 @@ pub two_seeds : (P : Params) → P.bits / 8 * 2 ≡ 2 * S P
 unfolding S
 two_seeds P = omega arith
 
--- ---- parts of work that the code lends
+-- the places in a signature, one behind the other
+pub record Places (a b size : ℕ) : Type 0 where
+  pub body : a ≤ b
+  pub packing : b ≤ size
 
--- from a to e, of n bytes
-pub record Within (a e n : ℕ) : Type 0 where
-  pub start : a ≤ e
-  pub end : e ≤ n
-
-module _ (P : Params) (f : Fits P) (a e n : ℕ) (size : n ≡ work_length) where
-  pub roots-within : a ≡ roots_at P → e ≡ challenges_at P → Within a e n
-  roots-within at to = let m = mapped P in let enough = f.enough in record { start = omega arith; end = omega arith }
-
-  pub challenges-within : a ≡ challenges_at P → e ≡ room_end P → Within a e n
-  challenges-within at to = let m = mapped P in let enough = f.enough in record { start = omega arith; end = omega arith }
+pub places : (P : Params) (a b size : ℕ) → a ≡ head_length P → b ≡ packing_at P → size ≡ signature_length P → Places a b size
+places P a b size h g e = let k = sections P in let inner = k.body in let whole = k.whole in record { body = omega arith; packing = omega arith }

@@ -19,10 +19,13 @@ ghost use Rattle.passes.specs.Passes.{HoldsSecret, HoldsCorrections};
 ghost use Rattle.signing.specs.Signing.{HoldsSigner, HoldsHashes};
 
 use keys::SECRET;
+use passes::Basis;
 use sets::{LONGEST_HASH, Params};
 use sponge::Sponge;
 
-// The signature of the message by the secret key, where that is consistent; otherwise nothing is written.
+// Stays: the lengths of hashes, signature, packing and work are clauses of each function that is lent them, since a struct around `&mut` slices, which has to be taken apart and built again at each call, is no plainer; and that the secret's bytes are elements is a clause, since `Basis` may not ask it of the callers of `passes`.
+
+// The signature of the message by the secret key, where that is consistent; otherwise nothing is written. The elements of the secret key are cleared again.
 pub fn sign(
     p: Params,
     sk: &[u8],
@@ -34,49 +37,15 @@ pub fn sign(
     requires { (Fits p) × (length sk.now ≡ secret_key_length p) × (length signature.old ≡ signature_length p) × (length work.old ≡ work_length) }
     ensures { (result ≡ consistent_key p sk.now) × (signature.new ≡ cond (consistent_key p sk.now) (sign.signature p sk.now random.now message.now) signature.old) }
 {
-    let n = p.n + p.m + p.m;
-    let mut secret = [0u8; SECRET];
-    sign_in(p, sk, message, random, &mut secret[0..n], signature, work)
-}
-
-// The same, with room for the elements of the secret key, which is cleared again.
-fn sign_in(
-    p: Params,
-    sk: &[u8],
-    message: &[u8],
-    random: &[u8],
-    secret: &mut [u8],
-    signature: &mut [u8],
-    work: &mut [u8],
-) -> bool
-    requires { (Fits p) × (length sk.now ≡ secret_key_length p) × (length secret.old ≡ p.n + p.m + p.m) × (length signature.old ≡ signature_length p) × (length work.old ≡ work_length) }
-    ensures { (result ≡ consistent_key p sk.now) × (signature.new ≡ cond (consistent_key p sk.now) (sign.signature p sk.now random.now message.now) signature.old) }
-{
-    let signed = sign_with(p, sk, message, random, secret, signature, work);
-    memory::clear(secret);
-    signed
-}
-
-// The same, and the room keeps the elements.
-fn sign_with(
-    p: Params,
-    sk: &[u8],
-    message: &[u8],
-    random: &[u8],
-    secret: &mut [u8],
-    signature: &mut [u8],
-    work: &mut [u8],
-) -> bool
-    requires { (Fits p) × (length sk.now ≡ secret_key_length p) × (length secret.old ≡ p.n + p.m + p.m) × (length signature.old ≡ signature_length p) × (length work.old ≡ work_length) }
-    ensures { (result ≡ consistent_key p sk.now) × (signature.new ≡ cond (consistent_key p sk.now) (sign.signature p sk.now random.now message.now) signature.old) }
-{
     let e = forms::circuit_len(p.n, p.m);
+    let mut secret = [0u8; SECRET];
+    let secret = &mut secret[0..p.n + p.m + p.m];
     let consistent = keys::consistent(p, sk, secret, &mut work[0..e]);
     if consistent {
         write(p, sk, message, random, secret, signature, work);
-        return true;
     }
-    false
+    secret.fill(0);
+    consistent
 }
 
 // The signature of a signer whose key is consistent, with the circuit in work.
@@ -92,39 +61,18 @@ fn write(
     requires { (Fits p) × (length secret.now ≡ p.n + p.m + p.m) × (Elements secret.now) × (length signature.old ≡ signature_length p) × (length work.old ≡ work_length) }
     ensures { let signer = signer_of p sk.now random.now message.now in HoldsSecret p signer signer.salt secret.now → HoldsCircuit p.n p.m (f p signer) (take (leaves_at p) work.old) → signature.new ≡ sign.signature p sk.now random.now message.now }
 {
-    let n = p.bits / 8 * 2;
+    let map = biscuit::layout_of(p);
     let mut salt = [0u8; LONGEST_HASH];
-    write_salted(
+    let salt = &mut salt[0..p.bits / 8 * 2];
+    draw(
         p,
         sk,
         message,
         random,
-        secret,
-        &mut salt[0..n],
-        signature,
-        work,
+        salt,
+        &mut work[map.roots..map.challenges],
     );
-}
-
-// The same, with room for the salt.
-fn write_salted(
-    p: Params,
-    sk: &[u8],
-    message: &[u8],
-    random: &[u8],
-    secret: &[u8],
-    salt: &mut [u8],
-    signature: &mut [u8],
-    work: &mut [u8],
-)
-    requires { (Fits p) × (length secret.now ≡ p.n + p.m + p.m) × (Elements secret.now) × (length salt.old ≡ 2 * S p) × (length signature.old ≡ signature_length p) × (length work.old ≡ work_length) }
-    ensures { let signer = signer_of p sk.now random.now message.now in HoldsSecret p signer signer.salt secret.now → HoldsCircuit p.n p.m (f p signer) (take (leaves_at p) work.old) → signature.new ≡ sign.signature p sk.now random.now message.now }
-{
-    let map = biscuit::layout_of(p);
-    let a = map.roots;
-    let b = map.challenges;
-    draw(p, sk, message, random, salt, &mut work[a..b]);
-    write_drawn(p, message, secret, salt, signature, work);
+    write_drawn(Basis { p, salt, secret }, message, signature, work);
 }
 
 // Algorithm 12, line 5: salt and roots from the random bytes, the secret key's bytes as given and the message.
@@ -139,90 +87,47 @@ fn draw(p: Params, sk: &[u8], message: &[u8], random: &[u8], salt: &mut [u8], ro
 }
 
 // The signature from salt and roots.
-fn write_drawn(
-    p: Params,
-    message: &[u8],
-    secret: &[u8],
-    salt: &[u8],
-    signature: &mut [u8],
-    work: &mut [u8],
-)
-    requires { (Fits p) × (length secret.now ≡ p.n + p.m + p.m) × (Elements secret.now) × (length salt.now ≡ 2 * S p) × (length signature.old ≡ signature_length p) × (length work.old ≡ work_length) }
-    ensures { (signer : Signer) → HoldsSigner p signer salt.now secret.now work.old → signature.new ≡ written p (signed p signer message.now) }
+fn write_drawn(basis: Basis<'_>, message: &[u8], signature: &mut [u8], work: &mut [u8])
+    requires { (Elements basis.secret.now) × (length signature.old ≡ signature_length basis.p) × (length work.old ≡ work_length) }
+    ensures { let b = basis.entry in (signer : Signer) → HoldsSigner b.p signer b.salt.now b.secret.now work.old → signature.new ≡ written b.p (signed b.p signer message.now) }
 {
-    let n = p.bits / 8 * 2;
+    let n = basis.p.bits / 8 * 2;
+    let a = biscuit::packing_at(basis.p);
+    let e = signature.len();
     let mut h1 = [0u8; LONGEST_HASH];
     let mut h2 = [0u8; LONGEST_HASH];
-    write_hashed(
-        p,
-        message,
-        secret,
-        salt,
-        &mut h1[0..n],
-        &mut h2[0..n],
-        signature,
-        work,
-    );
-}
-
-// The same, with room for the two hashes.
-fn write_hashed(
-    p: Params,
-    message: &[u8],
-    secret: &[u8],
-    salt: &[u8],
-    h1: &mut [u8],
-    h2: &mut [u8],
-    signature: &mut [u8],
-    work: &mut [u8],
-)
-    requires { (Fits p) × (length secret.now ≡ p.n + p.m + p.m) × (Elements secret.now) × (length salt.now ≡ 2 * S p) × (length h1.old ≡ 2 * S p) × (length h2.old ≡ 2 * S p) × (length signature.old ≡ signature_length p) × (length work.old ≡ work_length) }
-    ensures { (signer : Signer) → HoldsSigner p signer salt.now secret.now work.old → signature.new ≡ written p (signed p signer message.now) }
-{
-    let a = biscuit::packing_at(p);
-    let e = signature.len();
-    commit(p, message, secret, salt, h1, h2, &mut signature[a..e], work);
-    sections::open(p, secret, salt, h1, h2, signature, work);
+    let h1 = &mut h1[0..n];
+    let h2 = &mut h2[0..n];
+    commit(basis, message, h1, h2, &mut signature[a..e], work);
+    sections::open(basis, h1, h2, signature, work);
 }
 
 // Phases 1 to 4: both hashes, and the corrections in the packing.
 fn commit(
-    p: Params,
+    basis: Basis<'_>,
     message: &[u8],
-    secret: &[u8],
-    salt: &[u8],
     h1: &mut [u8],
     h2: &mut [u8],
     packing: &mut [u8],
     work: &mut [u8],
 )
-    requires { (Fits p) × (length secret.now ≡ p.n + p.m + p.m) × (Elements secret.now) × (length salt.now ≡ 2 * S p) × (length h1.old ≡ 2 * S p) × (length h2.old ≡ 2 * S p) × (length packing.old ≡ packed_length (vector_count p)) × (length work.old ≡ work_length) }
-    ensures { (signer : Signer) → HoldsSigner p signer salt.now secret.now work.old → HoldsHashes p signer message.now salt.now secret.now h1.new h2.new packing.new work.new }
+    requires { (Elements basis.secret.now) × (length h1.old ≡ 2 * S basis.p) × (length h2.old ≡ 2 * S basis.p) × (length packing.old ≡ packed_length (vector_count basis.p)) × (length work.old ≡ work_length) }
+    ensures { let b = basis.entry in (signer : Signer) → HoldsSigner b.p signer b.salt.now b.secret.now work.old → HoldsHashes b.p signer message.now b.salt.now b.secret.now h1.new h2.new packing.new work.new }
 {
-    let start = hashes::first(salt).absorb(message);
-    let full = passes::commit_pass(start, p, salt, secret, packing, work);
+    let start = hashes::first(basis.salt).absorb(message);
+    let full = passes::commit_pass(start, basis, packing, work);
     full.finish().squeeze(h1);
-    answer(p, secret, salt, h1, h2, packing, work);
+    answer(basis, h1, h2, packing, work);
 }
 
 // Phases 2 to 4: the challenges from the first hash, and the second.
-fn answer(
-    p: Params,
-    secret: &[u8],
-    salt: &[u8],
-    h1: &[u8],
-    h2: &mut [u8],
-    packing: &[u8],
-    work: &mut [u8],
-)
-    requires { (Fits p) × (length secret.now ≡ p.n + p.m + p.m) × (Elements secret.now) × (length salt.now ≡ 2 * S p) × (length h2.old ≡ 2 * S p) × (length packing.now ≡ packed_length (vector_count p)) × (length work.old ≡ work_length) }
-    ensures { (signer : Signer) (msg : List ℕ) → HoldsSigner p signer salt.now secret.now work.old → h1.now ≡ h₁ p signer msg → HoldsCorrections p signer p.tau packing.now → HoldsHashes p signer msg salt.now secret.now h1.now h2.new packing.now work.new }
+fn answer(basis: Basis<'_>, h1: &[u8], h2: &mut [u8], packing: &[u8], work: &mut [u8])
+    requires { (Elements basis.secret.now) × (length h2.old ≡ 2 * S basis.p) × (length packing.now ≡ packed_length (vector_count basis.p)) × (length work.old ≡ work_length) }
+    ensures { let b = basis.entry in (signer : Signer) (msg : List ℕ) → HoldsSigner b.p signer b.salt.now b.secret.now work.old → h1.now ≡ h₁ b.p signer msg → HoldsCorrections b.p signer b.p.tau packing.now → HoldsHashes b.p signer msg b.salt.now b.secret.now h1.now h2.new packing.now work.new }
 {
-    let map = biscuit::layout_of(p);
-    let a = map.challenges;
-    let e = map.end;
-    forms::tape_bytes(h1, &mut work[a..e]);
-    let start = hashes::second(salt, h1);
-    let full = replies::answer_pass(start, p, salt, secret, packing, work);
+    let map = biscuit::layout_of(basis.p);
+    forms::tape_bytes(h1, &mut work[map.challenges..map.end]);
+    let start = hashes::second(basis.salt, h1);
+    let full = replies::answer_pass(start, basis, packing, work);
     full.finish().squeeze(h2);
 }

@@ -10,9 +10,10 @@ use lib.Bits.{bit_xor, xor_comm}
 use borrow.Author.Tests.{eq-eqb, ne_eqb}
 use lib.Dec.{eqb}
 use lib.ListN.{length, get_or, take, drop}
+use lib.Seq.{ext_get_or, take_at, length-take-le}
+use Rattle.memory.proofs.Groups.{Stepped, stepped_all}
 use Rattle.memory.specs.Lists.{over}
 use Rattle.memory.proofs.Stores.{over-whole}
-use Rattle.memory.proofs.Copied.{copied_rest}
 use Rattle.field.specs.Field.{mul}
 use Rattle.field.specs.Packing.{nib, unpack, packed_length}
 use Rattle.field.specs.Vectors.{◌!◌, ◌⊕◌, ◌⊙◌}
@@ -45,38 +46,33 @@ lane_product x e w r ew t =
 
 -- ---- elements added to entries
 
--- an entry that is not yet written
-pub behind : (target old cur : List ℕ) (k : ℕ) → k ≤ length target → cur ≡ take k target ++ drop k old → get_or cur k 0 ≡ get_or old k 0
-behind target old cur k h e = ap (λ (x : List ℕ). get_or x k 0) e ∙ copied_rest target old k h
-
-pub length-elements : (bytes v : List ℕ) → length (unpack (length v) bytes ⊕ v) ≡ length v
-length-elements bytes v =
+pub elements_added : (bytes v w : List ℕ) (k : ℕ) → length w ≤ k → Stepped (λ j x y. y ≡ bit_xor x (nib bytes j)) k v w → w ≡ unpack (length v) bytes ⊕ v
+elements_added bytes v w k h s =
     let a = length_⊕ (unpack (length v) bytes) v in
     let b = length-unpack (length v) bytes in
-    omega arith
-
-pub elements-entry : (bytes v cur : List ℕ) (k r : ℕ) → k < length v → get_or cur k 0 ≡ get_or v k 0 → r ≡ nib bytes k
-    → bit_xor (get_or cur k 0) r ≡ get_or (unpack (length v) bytes ⊕ v) k 0
-elements-entry bytes v cur k r h ec er =
-    ap₂ bit_xor ec (er ∙ sym (get_or-unpack (length v) bytes k h)) ∙ xor_comm (get_or v k 0) (unpack (length v) bytes ! k) ∙ sym (⊕-at (unpack (length v) bytes) v k)
+    let e = s.size in
+    ext_get_or 0 w (unpack (length v) bytes ⊕ v) (omega arith) (λ j g.
+    let l : j < length v = omega arith in
+    stepped_all _ k v w s h j l
+    ∙ ap (bit_xor (get_or v j 0)) (sym (get_or-unpack (length v) bytes j l))
+    ∙ xor_comm (get_or v j 0) (unpack (length v) bytes ! j)
+    ∙ sym (⊕-at (unpack (length v) bytes) v j))
 
 -- ---- x·ε + a
 
-module _ (x ε tape : List ℕ) (mask : ℕ) (same : length ε ≡ length x) where
-  pub length_answer : length (x ⊙ ε ⊕ unpack (length x) (drop mask tape)) ≡ length x
-  length_answer =
-      let a = length_⊕ (x ⊙ ε) (unpack (length x) (drop mask tape)) in
-      let b = length_⊙ x ε in
-      let d = length-unpack (length x) (drop mask tape) in
-      omega arith
-
-  pub answer_entry : (cur : List ℕ) (k a v : ℕ) → k < length x → get_or cur k 0 ≡ get_or x k 0 → a ≡ nib tape (mask * 2 + k) → v ≡ mul (get_or cur k 0) (get_or ε k 0)
-      → bit_xor v a ≡ get_or (x ⊙ ε ⊕ unpack (length x) (drop mask tape)) k 0
-  answer_entry cur k a v h ec ea ev =
-      let m = length x in
-      ap₂ bit_xor (ev ∙ ap (λ (n : ℕ). mul n (get_or ε k 0)) ec ∙ sym (⊙-at x ε k))
-      (ea ∙ sym (nib-drop mask tape k) ∙ sym (get_or-unpack m (drop mask tape) k h))
-      ∙ sym (⊕-at (x ⊙ ε) (unpack m (drop mask tape)) k)
+pub answer_made : (x ε tape out : List ℕ) (mask k : ℕ) → length ε ≡ length x → length out ≤ k → Stepped (λ j u y. y ≡ bit_xor (mul u (ε ! j)) (nib tape (mask * 2 + j))) k x out
+    → out ≡ x ⊙ ε ⊕ unpack (length x) (drop mask tape)
+answer_made x ε tape out mask k same h s =
+    let m = length x in
+    let a = length_⊕ (x ⊙ ε) (unpack m (drop mask tape)) in
+    let b = length_⊙ x ε in
+    let d = length-unpack m (drop mask tape) in
+    let e = s.size in
+    ext_get_or 0 out (x ⊙ ε ⊕ unpack m (drop mask tape)) (omega arith) (λ j g.
+    let l : j < length x = omega arith in
+    stepped_all _ k x out s h j l
+    ∙ ap₂ bit_xor (sym (⊙-at x ε j)) (sym (nib-drop mask tape j) ∙ sym (get_or-unpack m (drop mask tape) j l))
+    ∙ sym (⊕-at (x ⊙ ε) (unpack m (drop mask tape)) j))
 
 -- ---- the share
 
@@ -116,6 +112,13 @@ mask_of : (b : Bool) (p q : Share) → p.a ≡ q.a → (cond b p q).a ≡ q.a
 mask_of true p q e = e
 mask_of false p q e = refl
 
+-- what came back into the front of a room, lent again
+pub front-lent : (room ys rest : List ℕ) (n : ℕ) → n ≤ length room → length ys ≡ length (take (n - 0) (drop 0 room)) → take (n - 0) (ys ++ rest) ≡ ys
+front-lent room ys rest n h e = take_at ys rest (n - 0) (e ∙ length-take-le (n - 0) (drop 0 room) (omega arith))
+
+pub front-length : (room : List ℕ) (n : ℕ) → n ≤ length room → length (take (n - 0) (drop 0 room)) ≡ n
+front-length room n h = length-take-le (n - 0) (drop 0 room) (omega arith) ∙ sub-zero n
+
 -- the parts of the values as they are lent
 pub delta_lent : (rep : Rep) (v : List ℕ) → take (rep.n - 0) (drop 0 v) ≡ delta_s rep v
 unfolding delta_s
@@ -147,18 +150,12 @@ module _ (rep : Rep) (i : ℕ) (circuit v tape : List ℕ) where
       ∙ ap₂ (λ (n : ℕ) (d : List ℕ). cond (eqb i 1) (unpack n tape ⊕ d) (unpack n tape)) ek ed ∙ sym own-secret)) ee
       ∙ ap (λ (a : List ℕ). forms_of i (affine_in rep.n rep.m circuit) party.s ⊙ epsilon rep v ⊕ a) (ap₂ (λ (n j : ℕ). unpack n (drop j tape)) el em ∙ sym own-mask)
 
--- the tape as the hash gives it
-pub alpha-tape : (rep : Rep) (i : ℕ) (circuit v fields tape out : List ℕ) (k : ℕ) → k ≡ tape_length rep.n rep.m → tape ≡ shake256 fields k
+-- for any circuit that the bytes hold, and any parameters of this size: the tape is what the hash gives
+pub alpha-held : (rep : Rep) (i : ℕ) (circuit v salt seed tape out : List ℕ) → tape ≡ shake256 (tape_fields salt rep.e i seed) (tape_length rep.n rep.m)
     → out ≡ alpha_of (circuit_in rep.n rep.m circuit) (epsilon rep v) i (corrected (delta_s rep v) (delta_c rep v) i (sampled rep tape))
-    → out ≡ alpha_of (circuit_in rep.n rep.m circuit) (epsilon rep v) i (corrected (delta_s rep v) (delta_c rep v) i (sampled rep (shake256 fields (tape_length rep.n rep.m))))
-alpha-tape rep i circuit v fields tape out k ek et eo =
-    eo ∙ ap (λ (t : List ℕ). alpha_of (circuit_in rep.n rep.m circuit) (epsilon rep v) i (corrected (delta_s rep v) (delta_c rep v) i (sampled rep t))) (et ∙ ap (shake256 fields) ek)
-
--- for any circuit that the bytes hold, and any parameters of this size
-pub alpha-held : (rep : Rep) (i : ℕ) (circuit v salt seed out : List ℕ)
-    → out ≡ alpha_of (circuit_in rep.n rep.m circuit) (epsilon rep v) i (corrected (delta_s rep v) (delta_c rep v) i (sampled rep (shake256 (tape_fields salt rep.e i seed) (tape_length rep.n rep.m))))
     → (P : Params) (f : Circuit) → P.n ≡ rep.n → P.m ≡ rep.m → HoldsCircuit rep.n rep.m f circuit
     → out ≡ alpha_of f (epsilon rep v) i (corrected (delta_s rep v) (delta_c rep v) i (raw_share P salt rep.e i seed))
 unfolding HoldsCircuit
-alpha-held rep i circuit v salt seed out e P f en em ec =
-    e ∙ ap₂ (λ (c : Circuit) (s : Share). alpha_of c (epsilon rep v) i (corrected (delta_s rep v) (delta_c rep v) i s)) ec (sampled_raw rep salt i seed ∙ sym (raw_same P (params_in rep) salt rep.e i seed en em))
+alpha-held rep i circuit v salt seed tape out et e P f en em ec =
+    e ∙ ap₂ (λ (c : Circuit) (s : Share). alpha_of c (epsilon rep v) i (corrected (delta_s rep v) (delta_c rep v) i s)) ec
+    (ap (sampled rep) et ∙ sampled_raw rep salt i seed ∙ sym (raw_same P (params_in rep) salt rep.e i seed en em))

@@ -14,14 +14,14 @@ use Rattle.memory.proofs.Words.{get_d_past}
 use Rattle.field.specs.Field.{coefficient}
 use Rattle.field.specs.Packing.{nib, pack, unpack, packed_length}
 use Rattle.field.specs.Vectors.{◌!◌, dot}
-use Rattle.field.proofs.Packing.{length-pack, nib-pack, nib-append_left, nib-append_right}
+use Rattle.field.proofs.Packing.{half_up, length-pack, nib-pack, nib-append_left, nib-append_right}
 use Rattle.field.proofs.Sums.{dot_of_stop}
 use Rattle.marks.specs.Marks.{EachWord, lane_sum}
 use Rattle.forms.specs.Circuit.{linear}
 use Rattle.forms.specs.Room.{circuit_length, affine_in}
 use Rattle.forms.proofs.Circuit.{linear_at, length-linear}
 use Rattle.forms.proofs.Evaluated.{row-dot}
-use Rattle.forms.proofs.Room.{packed_holds, affine_size, circuit_three, row_in, length-rows_in}
+use Rattle.forms.proofs.Room.{packed_holds, affine_two, circuit_three, row_in, length-rows_in}
 use Rattle.single.specs.Masks.{MasksOf, RowsOf}
 use Rattle.single.proofs.Weighing.{bits_low}
 
@@ -66,24 +66,26 @@ unfolding affine_in
 rows-length n m circuit = length-rows_in n m (drop (packed_length m) circuit)
 
 -- the last word of a row may reach into the tables behind it
-pub rows_fit : (n m : ℕ) (circuit sums : List ℕ) → 16 ≤ m → length circuit ≡ circuit_length n m → length sums ≡ m
-    → m / 2 + m % 2 + length sums * (n / 2 + n % 2) + 8 * ((n + 15) / 16) ≤ length circuit + (n / 2 + n % 2)
-rows_fit n m circuit sums some size rows =
-    let w : ℕ = n / 2 + n % 2 in
+pub rows_fit : (n m first width words : ℕ) (circuit sums : List ℕ) → first ≡ packed_length m → width ≡ packed_length n → 16 * words ≤ n + 15 → 16 ≤ m → length circuit ≡ circuit_length n m → length sums ≡ m
+    → first + length sums * width + 8 * words ≤ length circuit + width
+rows_fit n m first width words circuit sums ef ew en some size rows =
+    let w = packed_length n in
     let a : 16 * w ≤ m * w = mul-le-mul_right w some in
-    let b = affine_size n m in
+    let b = affine_two n m in
     let c = circuit_three n m in
-    let e : length sums * w ≡ m * w = ap (λ (k : ℕ). k * w) rows in
+    let e : length sums * width ≡ m * w = ap₂ (λ (j k : ℕ). j * k) rows ew in
+    let h = half_up n in
     omega arith
 
-pub first_out : (n m first width words size : ℕ) (circuit s sums out₀ out : List ℕ) → first ≡ packed_length m → width ≡ packed_length n → n ≤ 16 * words → length s ≡ n
+pub first_out : (n m first width words size : ℕ) (circuit s sums lent out₀ out : List ℕ) → first ≡ packed_length m → width ≡ packed_length n → n ≤ 16 * words → length s ≡ n
     → length out₀ ≡ m → length out ≡ length out₀ → size ≡ m → RowsOf circuit first width (16 * words) (λ j. s ! j) size sums
-    → EachWord (λ k x y. y ≡ lane_sum (sums ! k)) out₀ out → out ≡ linear (affine_in n m circuit) s
+    → lent ≡ sums → EachWord (λ k x y. y ≡ lane_sum (lent ! k)) out₀ out → out ≡ linear (affine_in n m circuit) s
 unfolding RowsOf EachWord
-first_out n m first width words size circuit s sums out₀ out ef ew en es eo ek ez rows each =
+first_out n m first width words size circuit s sums lent out₀ out ef ew en es eo ek ez rows same each =
     let l = length-linear (affine_in n m circuit) s ∙ rows-length n m circuit in
     ext_get_or 0 out (linear (affine_in n m circuit) s) (ek ∙ eo ∙ sym l) (λ k h.
     each k (omega arith)
+    ∙ ap (λ (l : List ℕ). lane_sum (l ! k)) same
     ∙ rows k (omega arith)
     ∙ dot_of_stop n (16 * words) (λ j. nib circuit ((first + k * width) * 2 + j)) (λ j. s ! j) en (λ i g. get_d_past s i (omega arith))
     ∙ sym (row-dot circuit (first + k * width) n s)

@@ -8,31 +8,34 @@ ghost use Rattle.lanes.specs.Lanes.{lane};
 ghost use Rattle.marks.specs.Marks.{lane_sum};
 ghost use Rattle.single.specs.Masks.{MaskOf, MasksOf, RowsOf, weigh};
 
-// The words of sixteen elements that hold any vector, and the ones of a word.
+// Eight words of sixteen elements hold any vector: their bytes, and their masks, four for each.
 const WORDS: usize = 8;
 
+const PACKED: usize = 8 * WORDS;
+
+pub const MASKS: usize = 4 * WORDS;
+
+// The ones of a word.
 const ONES: u64 = 0x1111111111111111;
 
-// The masks of a vector, with room for its packed elements.
-pub fn fill(s: &[u8], packed: &mut [u8], masks: &mut [u64])
-    requires { (length s.now ≤ 128) × (length packed.old ≡ 64) × ((i : ℕ) → get_or packed.old i 0 ≡ 0) × (length masks.old ≡ 32) }
+// The masks of a vector.
+pub fn fill(s: &[u8], masks: &mut [u64])
+    requires { (length s.now ≤ 128) × (length masks.old ≡ MASKS) }
     ensures { MasksOf (λ j. s.now ! j) 8 masks.new }
 {
-    field::pack_into(s, packed);
-    each(packed, masks);
+    let mut packed = [0u8; PACKED];
+    field::pack_into(s, &mut packed);
+    each(&packed, masks);
 }
 
 // The masks of packed elements, four for each word.
 fn each(packed: &[u8], masks: &mut [u64])
-    requires { (length packed.now ≡ 64) × (length masks.old ≡ 32) }
+    requires { (length packed.now ≡ PACKED) × (length masks.old ≡ MASKS) }
     ensures { MasksOf (nib packed.now) 8 masks.new }
 {
-    let mut w = 0;
-    while w < WORDS {
+    for w in 0..WORDS {
         let a = w * 4;
-        let e = a + 4;
-        four(lanes::word_at(packed, 8 * w), &mut masks[a..e]);
-        w += 1;
+        four(lanes::word_at(packed, 8 * w), &mut masks[a..a + 4]);
     }
 }
 
@@ -41,10 +44,8 @@ fn four(x: u64, masks: &mut [u64])
     requires { length masks.old ≡ 4 }
     ensures { (b : ℕ) → b < 4 → MaskOf x b (get_or masks.new b 0) }
 {
-    let mut b = 0;
-    while b < 4 {
-        masks[b] = mask(x, b);
-        b += 1;
+    for (b, m) in masks.iter_mut().enumerate() {
+        *m = mask(x, b);
     }
 }
 
@@ -58,35 +59,29 @@ fn mask(x: u64, b: usize) -> u64
 
 // Fills `out` with words whose lanes add up to the rows' products with the vector of the masks. The first row stands at the byte `start`, and each next one `width` further on.
 pub fn rows(bytes: &[u8], start: usize, width: usize, words: usize, masks: &[u64], out: &mut [u64])
-    requires { (words ≤ 8) × (width < 4096) × (start + length out.old * width + 8 * words ≤ length bytes.now + width) × (length masks.now ≡ 32) }
+    requires { (words ≤ 8) × (width < 4096) × (start + length out.old * width + 8 * words ≤ length bytes.now + width) × (length masks.now ≡ MASKS) }
     ensures { (s : ℕ → ℕ) → MasksOf s 8 masks.now → RowsOf bytes.now start width (16 * words) s (length out.old) out.new }
 {
-    let mut at = start;
-    let mut k = 0;
-    while k < out.len() {
-        out[k] = row(bytes, at, words, masks);
-        at += width;
-        k += 1;
+    for (k, sums) in out.iter_mut().enumerate() {
+        *sums = row(bytes, start + k * width, words, masks);
     }
 }
 
 // A word whose lanes add up to a row's product with the vector of the masks.
 fn row(bytes: &[u8], at: usize, words: usize, masks: &[u64]) -> u64
-    requires { (words ≤ 8) × (at + 8 * words ≤ length bytes.now) × (length masks.now ≡ 32) }
+    requires { (words ≤ 8) × (at + 8 * words ≤ length bytes.now) × (length masks.now ≡ MASKS) }
     ensures { (s : ℕ → ℕ) → MasksOf s 8 masks.now → lane_sum result ≡ dot_of (16 * words) (λ j. nib bytes.now (at * 2 + j)) s }
 {
     let mut a = 0;
     let mut b = 0;
     let mut c = 0;
     let mut d = 0;
-    let mut w = 0;
-    while w < words {
+    for w in 0..words {
         let x = lanes::word_at(bytes, at + 8 * w);
         a = a ^ (x & masks[w * 4]);
         b = b ^ (x & masks[w * 4 + 1]);
         c = c ^ (x & masks[w * 4 + 2]);
         d = d ^ (x & masks[w * 4 + 3]);
-        w += 1;
     }
     weighted(a, b, c, d)
 }

@@ -9,7 +9,7 @@ use native.Mathlib.Decide.{dec_lt}
 use native.Mathlib.Omega.{arith}
 use borrow.Author.Tests.{lt-ltb, le-ltb}
 use lib.ListN.{length, take, drop, replicate, length-append, length-drop, length-replicate, take-append-drop}
-use lib.Seq.{take_all, take-append-le, drop-append-le, length-take-le, take-add}
+use lib.Seq.{take_all, take-append-le, drop-append-le, length-take-le}
 use lib.Bits.{bit_xor, xor_block}
 use lib.Pow.{pow_pos}
 use Rattle.keccak.specs.Keccak.{keccak_f}
@@ -167,9 +167,11 @@ finished-blocks (suc n) S m e =
 
 -- ---- a turn of the loop over a message: as much of it as the block has room for
 
-pub absorbed_none : (S : List ℕ) (at : ℕ) → at < rate → sponge S at ≡ absorbed (sponge S at) []
+-- nothing is left
+pub absorbed_none : (S : List ℕ) (at : ℕ) (x : List ℕ) → at < rate → length x ≡ 0 → absorbed (sponge S at) x ≡ sponge S at
 unfolding absorbed
-absorbed_none S at h = sym (within_small S at h)
+absorbed_none S at [] h e = within_small S at h
+absorbed_none S at (b ∷ x) h e = absurd (omega arith)
 
 pub turned-place : (S : List ℕ) (at : ℕ) (r : Sponge) → r ≡ turned S at → r.at < rate
 turned-place S at r e =
@@ -178,20 +180,15 @@ turned-place S at r e =
       | no h ↦ (let g = ap (λ (s : Sponge). s.at) (e ∙ turned_full S at (let k : rate ≤ at = omega arith in k)) in omega arith)
     ]
 
-pub absorb_turn : (s : Sponge) (bytes : List ℕ) (i n : ℕ) (S x : List ℕ) (at : ℕ) (r : Sponge)
-    → i < length bytes → at < rate → n ≡ min (rate - at) (length bytes - i)
-    → sponge S at ≡ absorbed s (take i bytes)
-    → x ≡ xor_bytes S at (take (i + n - i) (drop i bytes))
-    → r ≡ turned x (at + n)
-    → r ≡ absorbed s (take (i + n) bytes)
-absorb_turn s bytes i n S x at r h k en so_far ex er =
-    let l : length (take (i + n - i) (drop i bytes)) ≡ i + n - i = length-take-le (i + n - i) (drop i bytes) (simp length-drop (omega arith)) in
-    er
-    ∙ ap₂ turned ex (let g : at + n ≡ at + length (take (i + n - i) (drop i bytes)) = omega arith in g)
-    ∙ sym (absorbed_run S at (take (i + n - i) (drop i bytes)) k (omega arith))
-    ∙ ap (λ (u : Sponge). absorbed u (take (i + n - i) (drop i bytes))) so_far
-    ∙ absorbed-append s (take i bytes) (take (i + n - i) (drop i bytes))
-    ∙ ap (absorbed s) (sym (take-add i (i + n - i) bytes) ∙ ap (λ (m : ℕ). take m bytes) (let g : i + (i + n - i) ≡ i + n = omega arith in g))
+pub absorb_turn : (S rest : List ℕ) (at n : ℕ) (x : List ℕ) (r : Sponge)
+    → at < rate → n ≡ min (rate - at) (length rest) → x ≡ xor_bytes S at (take n rest) → r ≡ turned x (at + n)
+    → absorbed r (drop n rest) ≡ absorbed (sponge S at) rest
+absorb_turn S rest at n x r h en ex er =
+    let l = length-take-le n rest (omega arith) in
+    ap (λ (s : Sponge). absorbed s (drop n rest))
+    (er ∙ ap₂ turned ex (ap (λ (k : ℕ). at + k) (sym l)) ∙ sym (absorbed_run S at (take n rest) h (omega arith)))
+    ∙ absorbed-append (sponge S at) (take n rest) (drop n rest)
+    ∙ ap (absorbed (sponge S at)) (take-append-drop n rest)
 
 -- ---- a message that is shorter than a block: its bytes, the suffix and the padding are xored into a state of zeros
 

@@ -2,21 +2,25 @@
 -- Assumes nothing.
 use mathlib.Core.Path.{◌≡◌, refl, sym, ap, ap₂, ◌∙◌}
 use mathlib.Core.List.{List, [], ◌∷◌, ◌++◌, append_assoc, append-nil}
-use Prim.Native.Nat.{ℕ, zero, suc, ◌+◌, ◌*◌, ◌/◌, ◌%◌, ◌^◌, ◌≤◌, ◌<◌}
+use Prim.Native.Nat.{ℕ, zero, suc, ◌+◌, ◌-◌, ◌*◌, ◌/◌, ◌%◌, ◌^◌, ◌≤◌, ◌<◌}
 use native.Mathlib.Nat.{zero-mul, add-zero, add_assoc, mul-one}
 use native.Mathlib.Decide.{dec_lt}
 use native.Mathlib.Numerals.{add-one}
 use native.Mathlib.Omega.{arith}
+use mir.Syntax.{w64}
 use lib.ListN.{length, get_or, take, drop, set, replicate, length-append, length-drop, length-set, drop_of_length-le}
 use lib.Seq.{take_all, take-append-le, drop-append-le, set-get_or, take-add, take-suc-set, length-take-le}
 use lib.Bits.{bit_xor, xor_zero_r}
-use Rattle.memory.specs.Lists.{table, put}
+use borrow.Rule.Slice.PartMut.{put_mid}
+use Rattle.std.specs.Int.{to_le_bytes}
+use Rattle.std.proofs.lemmas.Slice.{take-put_mid}
+use Rattle.memory.specs.Lists.{table}
 use Rattle.memory.proofs.Bits.{xor_assoc}
-use Rattle.memory.proofs.Bytes.{set_again, take_through}
+use Rattle.memory.proofs.Bytes.{set_again}
 use Rattle.memory.proofs.Lists.{length-table, table-suc, table_same, table-add}
 use Rattle.sponge.specs.Sponge.{little, xored, byte_at}
-use Rattle.sponge.specs.Steps.{xor_byte, xor_bytes, bytes_from, bytes_of}
-use Rattle.sponge.proofs.Words.{xor-little, above_byte, length-bytes_of, shifted_few}
+use Rattle.sponge.specs.Steps.{xor_byte, xor_bytes, bytes_from}
+use Rattle.sponge.proofs.Words.{xor-little, above_byte, shifted_few, word-bytes}
 
 -- ---- one byte xored into a state
 
@@ -192,10 +196,11 @@ unfolding bytes_from
 bytes_from-snoc S i n = ap (λ (k : ℕ). table k (λ j. byte_at S (i + j))) (add-one n) ∙ table-suc n (λ j. byte_at S (i + j))
 
 -- the bytes of a lane
-bytes_of-lane : (S : List ℕ) (k : ℕ) → bytes_of 8 (get_or S k 0) ≡ bytes_from S (8 * k) 8
-unfolding bytes_of bytes_from byte_at
-bytes_of-lane S k =
-    table_same 8 (λ i. get_or S k 0 / 2 ^ (8 * i) % 256) (λ i. get_or S ((8 * k + i) / 8) 0 / 2 ^ (8 * ((8 * k + i) % 8)) % 256)
+bytes_from-lane : (S : List ℕ) (k : ℕ) → to_le_bytes w64 (get_or S k 0) ≡ bytes_from S (8 * k) 8
+unfolding bytes_from byte_at
+bytes_from-lane S k =
+    word-bytes (get_or S k 0)
+    ∙ table_same 8 (λ i. get_or S k 0 / 2 ^ (8 * i) % 256) (λ i. get_or S ((8 * k + i) / 8) 0 / 2 ^ (8 * ((8 * k + i) % 8)) % 256)
     (λ i h. ap₂ (λ (q r : ℕ). get_or S q 0 / 2 ^ (8 * r) % 256)
     (let e : k ≡ (8 * k + i) / 8 = omega arith in e) (let e : i ≡ (8 * k + i) % 8 = omega arith in e))
 
@@ -235,15 +240,20 @@ given_turn S at out i v h e f =
     ∙ ap₂ (λ (x : List ℕ) (y : ℕ). x ++ (y ∷ [])) e f
     ∙ sym (bytes_from-snoc S at i)
 
+-- the bytes from a to e are given behind those before them
+pub given_part : (S : List ℕ) (at : ℕ) (out ys : List ℕ) (a k e : ℕ) → a ≤ length out → a ≤ e
+    → take a out ≡ bytes_from S at a → ys ≡ bytes_from S (at + a) (e - a) → take e (put_mid a k out ys) ≡ bytes_from S at e
+given_part S at out ys a k e h le so_far new =
+    let l : length ys ≡ e - a = ap length new ∙ length-bytes_from S (at + a) (e - a) in
+    take-put_mid a k out ys e (omega arith) h
+    ∙ ap₂ (λ (x y : List ℕ). x ++ y) so_far new
+    ∙ sym (bytes_from-add S at a (e - a))
+    ∙ ap (bytes_from S at) (let g : a + (e - a) ≡ e = omega arith in g)
+
 -- one word more is given
-pub given_words_turn : (S : List ℕ) (k : ℕ) (out : List ℕ) (j : ℕ) (new : List ℕ) → 8 * j + 8 ≤ length out
-    → take (8 * j) out ≡ bytes_from S (8 * k) (8 * j) → new ≡ put out (8 * j) (bytes_of 8 (get_or S (k + j) 0))
-    → take (8 * (j + 1)) new ≡ bytes_from S (8 * k) (8 * (j + 1))
-given_words_turn S k out j new h e f =
-    let l = length-bytes_of 8 (get_or S (k + j) 0) in
-    ap (take (8 * (j + 1))) f
-    ∙ ap (λ (n : ℕ). take n (put out (8 * j) (bytes_of 8 (get_or S (k + j) 0)))) (let g : 8 * (j + 1) ≡ 8 * j + length (bytes_of 8 (get_or S (k + j) 0)) = omega arith in g)
-    ∙ take_through out (8 * j) (bytes_of 8 (get_or S (k + j) 0)) (omega arith)
-    ∙ ap₂ (λ (x y : List ℕ). x ++ y) e (bytes_of-lane S (k + j) ∙ ap (λ (n : ℕ). bytes_from S n 8) (let g : 8 * (k + j) ≡ 8 * k + 8 * j = omega arith in g))
-    ∙ sym (bytes_from-add S (8 * k) (8 * j) 8)
-    ∙ ap (bytes_from S (8 * k)) (let g : 8 * j + 8 ≡ 8 * (j + 1) = omega arith in g)
+pub given_words_turn : (S : List ℕ) (k : ℕ) (out : List ℕ) (j n : ℕ) (new : List ℕ) → 8 * j ≤ length out
+    → take (8 * j) out ≡ bytes_from S (8 * k) (8 * j) → new ≡ to_le_bytes w64 (get_or S (k + j) 0)
+    → take (8 * (j + 1)) (put_mid (8 * j) n out new) ≡ bytes_from S (8 * k) (8 * (j + 1))
+given_words_turn S k out j n new h e f =
+    given_part S (8 * k) out new (8 * j) n (8 * (j + 1)) h (omega arith) e
+    (f ∙ bytes_from-lane S (k + j) ∙ ap₂ (bytes_from S) (let g : 8 * (k + j) ≡ 8 * k + 8 * j = omega arith in g) (let g : 8 ≡ 8 * (j + 1) - 8 * j = omega arith in g))

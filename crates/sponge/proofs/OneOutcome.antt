@@ -10,6 +10,7 @@ use Rattle.sponge.proofs.Sponge.new as new
 use Rattle.sponge.proofs.Sponge.absorb as absorb
 use Rattle.sponge.proofs.Sponge.finish as finish
 use Rattle.sponge.proofs.Tape.squeeze as squeeze
+use Rattle.sponge.proofs.shake256 as shake256
 use Rattle.sponge.proofs.short as short
 
 pub new_one_outcome : OneOutcome new.Kinds.ps new.Kinds.r new.Reads.Asked new.Reads.Learnt
@@ -27,3 +28,6 @@ squeeze_one_outcome κs a good asked o q x y =
 
 pub short_one_outcome : OneOutcome short.Kinds.ps short.Kinds.r short.Reads.Asked short.Reads.Learnt
 short_one_outcome κs a good asked o q x y = ap (λ (l : List ℕ). (tt, (tt, (tt, (l, tt))))) (x.promised ∙ sym y.promised)
+
+pub shake256_one_outcome : OneOutcome shake256.Kinds.ps shake256.Kinds.r shake256.Reads.Asked shake256.Reads.Learnt
+shake256_one_outcome κs a good asked o q x y = ap (λ (l : List ℕ). (tt, (tt, (l, tt)))) (x.promised ∙ sym y.promised)

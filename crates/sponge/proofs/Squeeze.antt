@@ -10,10 +10,11 @@ use native.Mathlib.Omega.{arith}
 use borrow.Author.Tests.{lt-ltb, le-ltb}
 use lib.ListN.{length, get_or, take, drop, length-append, length-drop}
 use lib.Seq.{take-append-le, take-append-add, take-nil, length-take-le}
-use Rattle.memory.specs.Lists.{table, put}
+use borrow.Rule.Slice.PartMut.{put_mid}
+use Rattle.std.proofs.lemmas.Slice.{take-put_mid}
+use Rattle.memory.specs.Lists.{table}
 use Rattle.memory.proofs.Lists.{length-table, table_same}
-use Rattle.memory.proofs.Bytes.{take-table, take_through, get_or-snoc-lt}
-use Rattle.memory.proofs.Parts.{lent-put, length-put}
+use Rattle.memory.proofs.Bytes.{take-table, get_or-snoc-lt}
 use Rattle.keccak.specs.Keccak.{keccak_f}
 use Rattle.sponge.specs.declared.Tape.{Tape}
 use Rattle.sponge.specs.Sponge.{rate, byte_at, squeezing}
@@ -160,31 +161,24 @@ module _ (t : Tape) (i n : ℕ) (out : List ℕ) (u r : Tape)
       ∙ ap (λ (v : Tape). moved v n) behind
       ∙ moved-append t i n
 
-  module _ (ys : List ℕ) (so_far : take i out ≡ given t i) (new : ys ≡ bytes_from r.lanes r.at (length (take (i + n - i) (drop i out)))) where
-    fresh-length : length (take (i + n - i) (drop i out)) ≡ n
-    fresh-length = length-take-le (i + n - i) (drop i out) (let p = place in simp length-drop (omega arith)) ∙ (let g : i + n - i ≡ n = omega arith in g)
+  pub squeeze_given : (ys : List ℕ) → take i out ≡ given t i → ys ≡ bytes_from r.lanes r.at (length (take (i + n - i) (drop i out)))
+      → take (i + n) (put_mid i (i + n - i) out ys) ≡ given t (i + n)
+  squeeze_given ys so_far new =
+      take-put_mid i (i + n - i) out ys (i + n) (omega (arith, long)) (omega arith)
+      ∙ ap₂ (λ (x y : List ℕ). x ++ y) so_far given_next
+      ∙ sym (given-append t i n)
+    where
+      lent : length (take (i + n - i) (drop i out)) ≡ n
+      lent = length-take-le (i + n - i) (drop i out) (let p = place in simp length-drop (omega arith)) ∙ (let g : i + n - i ≡ n = omega arith in g)
 
-    fresh-given : ys ≡ given (moved t i) n
-    fresh-given =
-        let p = place in
-        new ∙ ap (bytes_from r.lanes r.at) fresh-length
-        ∙ sym (given_run r.lanes r.at n (omega arith))
-        ∙ ap (λ (v : Tape). given v n) renewed
-        ∙ given-ready u n
-        ∙ ap (λ (v : Tape). given v n) behind
+      given_next : ys ≡ given (moved t i) n
+      given_next =
+          let p = place in
+          new ∙ ap (bytes_from r.lanes r.at) lent
+          ∙ sym (given_run r.lanes r.at n (omega arith))
+          ∙ ap (λ (v : Tape). given v n) renewed
+          ∙ given-ready u n
+          ∙ ap (λ (v : Tape). given v n) behind
 
-    length-fresh : length ys ≡ i + n - i
-    length-fresh = ap length fresh-given ∙ length-given (moved t i) n ∙ (let g : n ≡ i + n - i = omega arith in g)
-
-    pub squeeze_length : length (take i out ++ (ys ++ drop (i + n - i) (drop i out))) ≡ length out
-    squeeze_length = let p = place in let l = length-fresh in ap length (lent-put out i (i + n) ys l) ∙ length-put out i ys (omega arith)
-
-    pub squeeze_given : take (i + n) (take i out ++ (ys ++ drop (i + n - i) (drop i out))) ≡ given t (i + n)
-    squeeze_given =
-        let p = place in
-        let l = length-fresh in
-        ap (take (i + n)) (lent-put out i (i + n) ys l)
-        ∙ ap (λ (m : ℕ). take m (put out i ys)) (let g : i + n ≡ i + length ys = omega arith in g)
-        ∙ take_through out i ys (omega arith)
-        ∙ ap₂ (λ (x y : List ℕ). x ++ y) so_far fresh-given
-        ∙ sym (given-append t i n)
+      long : length ys ≡ n
+      long = ap length given_next ∙ length-given (moved t i) n

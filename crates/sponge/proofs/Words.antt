@@ -1,25 +1,30 @@
--- Words and bytes: the little-endian number of a list of bytes, the bytes of a number, and how both are put together from shorter ones.
+-- Words and bytes: the little-endian number of a list of bytes, byte by byte and a word at once, and the eight bytes of a word.
 -- Assumes nothing.
-use mathlib.Core.Path.{◌≡◌, sym, ap, ap₂, ◌∙◌, subst}
+use mathlib.Core.Path.{◌≡◌, refl, sym, ap, ap₂, ◌∙◌}
 use mathlib.Core.List.{List, [], ◌∷◌, ◌++◌}
-use Prim.Native.Nat.{ℕ, suc, ◌+◌, ◌-◌, ◌*◌, ◌/◌, ◌%◌, ◌^◌, ◌≤◌, ◌<◌}
-use native.Mathlib.Nat.{mul_left_comm, add_comm, zero-add, mul_assoc, mul_comm, add-mul, mul-one, mul-lt-mul_of_pos_right, mul-add, mod-eq_of_lt, div-one, lt_of_lt_of_le}
+use Prim.Native.Nat.{ℕ, zero, suc, ◌+◌, ◌*◌, ◌/◌, ◌%◌, ◌^◌, ◌≤◌, ◌<◌}
+use native.Mathlib.Nat.{mul_left_comm, add_comm, zero-add, mul_assoc, mul_comm, add-mul, mul-one, mul-lt-mul_of_pos_right, pow-succ', mod-eq_of_lt, div-one}
+use native.Mathlib.Numerals.{add-one}
 use native.Mathlib.Omega.{arith}
-use lib.ListN.{length, get_or, take, drop, set, length-drop}
-use lib.Seq.{take-add, drop-drop, drop-cons, length-take-le}
-use lib.Pow.{pow-add, pow_pos, pow_mono, shl_exact, shr-shr}
+use mir.Syntax.{w64}
+use lib.ListN.{length, get_or, take, drop, length-drop}
+use lib.Seq.{take-suc, take_all, length-take-le, drop-drop, get_or-take, get_or-drop}
+use lib.Pow.{pow-add, pow_pos, shl_exact}
 use lib.Bits.{bit_xor, xor_shifted, xor_comm}
-use Rattle.memory.specs.Lists.{table, put}
-use Rattle.memory.proofs.Lists.{length-table, table-add, table_same}
-use Rattle.memory.proofs.Parts.{set-put, put_next, length-put}
+use Rattle.std.specs.Simd.{first_chunks}
+use Rattle.std.specs.Int.{from_le_bytes, to_le_bytes, sum_through, byte_worth}
+use Rattle.memory.specs.Lists.{table}
 use Rattle.sponge.specs.Sponge.{little}
-use Rattle.sponge.specs.Steps.{bytes_of}
 
 pub pow_byte : (n : ℕ) → 2 ^ (8 * suc n) ≡ 256 * 2 ^ (8 * n)
 pow_byte n = ap (λ (k : ℕ). 2 ^ k) (eight n) ∙ pow-add 2 8 (8 * n)
   where
     eight : (n : ℕ) → 8 * suc n ≡ 8 + 8 * n
     eight n = omega arith
+
+pow_bytes : (n : ℕ) → 256 ^ n ≡ 2 ^ (8 * n)
+pow_bytes zero = refl
+pow_bytes (suc n) = pow-succ' 256 n ∙ ap (λ (k : ℕ). 256 * k) (pow_bytes n) ∙ sym (pow_byte n)
 
 -- ---- the number of a list of bytes
 
@@ -43,11 +48,14 @@ little_single : (b : ℕ) → little (b ∷ []) ≡ b % 256
 unfolding little
 little_single b = omega arith
 
+-- one byte more, above the others
+little-snoc : (s : List ℕ) (b : ℕ) → little (s ++ (b ∷ [])) ≡ little s + b % 256 * 2 ^ (8 * length s)
+little-snoc s b = little-append s (b ∷ []) ∙ ap (λ (n : ℕ). little s + n * 2 ^ (8 * length s)) (little_single b)
+
 -- one byte more is xored in above the others
 pub xor-little : (s : List ℕ) (b : ℕ) → bit_xor (little s) (b % 256 * 2 ^ (8 * length s)) ≡ little (s ++ (b ∷ []))
 xor-little s b =
-    xor_comm (little s) _ ∙ xor_shifted (b % 256) (8 * length s) (little s) (little-lt s)
-    ∙ add_comm _ (little s) ∙ ap (λ (n : ℕ). little s + n * 2 ^ (8 * length s)) (sym (little_single b)) ∙ sym (little-append s (b ∷ []))
+    xor_comm (little s) _ ∙ xor_shifted (b % 256) (8 * length s) (little s) (little-lt s) ∙ add_comm _ (little s) ∙ sym (little-snoc s b)
 
 -- a number of whole bytes above a lower byte
 pub above_byte : (b l j : ℕ) → bit_xor (b % 256 * 2 ^ (8 * j)) (l * 2 ^ (8 * suc j)) ≡ (b % 256 + 256 * l) * 2 ^ (8 * j)
@@ -62,72 +70,6 @@ above_byte b l j =
     small : b % 256 * 2 ^ (8 * j) < 2 ^ (8 * suc j)
     small = rw pow_byte (mul-lt-mul_of_pos_right {m = b % 256} {n = 256} (omega arith) (pow_pos (8 * j)))
 
--- ---- a number loaded from a list
-
--- the bytes from i on, of which m come first
-little_join : (m n i : ℕ) (l : List ℕ) → i + m ≤ length l → little (take m (drop i l)) + little (take n (drop (i + m) l)) * 2 ^ (8 * m) ≡ little (take (m + n) (drop i l))
-little_join m n i l h =
-    ap₂ (λ (x : List ℕ) (k : ℕ). little (take m (drop i l)) + little (take n x) * 2 ^ (8 * k)) (sym (drop-drop m i l)) (sym (length-take-le m (drop i l) room))
-    ∙ sym (little-append (take m (drop i l)) (take n (drop m (drop i l))))
-    ∙ ap little (sym (take-add m n (drop i l)))
-  where
-    room : m ≤ length (drop i l)
-    room = simp length-drop (omega arith)
-
-pub load_double : (n i : ℕ) (l : List ℕ) (a b : ℕ) → a ≡ little (take n (drop i l)) → b ≡ little (take n (drop (i + n) l)) → i + n ≤ length l
-    → a + b * 2 ^ (8 * n) ≡ little (take (n + n) (drop i l))
-load_double n i l a b e f h = ap₂ (λ (x y : ℕ). x + y * 2 ^ (8 * n)) e f ∙ little_join n n i l h
-
-pub load_one : (i : ℕ) (l : List ℕ) (a : ℕ) → a ≡ get_or l i 0 → a < 256 → i < length l → a ≡ little (take 1 (drop i l))
-load_one i l a e k h =
-    sym (ap (λ (x : List ℕ). little (take 1 x)) (drop-cons l i 0 h) ∙ little_single (get_or l i 0) ∙ ap (λ (n : ℕ). n % 256) (sym e) ∙ mod-eq_of_lt k)
-
--- byte by byte, from the last to the first
-pub load_small : (bytes : List ℕ) (i w : ℕ) → length bytes ≤ 8 → 0 < i → w ≡ little (drop i bytes) → w < 2 ^ 56
-load_small bytes i w h k e =
-    subst (λ (n : ℕ). n < 2 ^ 56) (sym e)
-    (lt_of_lt_of_le (little-lt (drop i bytes)) (pow_mono {i = 8 * length (drop i bytes)} {j = 56} (simp length-drop (omega arith))))
-
-pub load_turn : (bytes : List ℕ) (i w b : ℕ) → 0 < i → i ≤ length bytes → w ≡ little (drop i bytes) → b ≡ get_or bytes (i - 1) 0 → b < 256 → w * 256 + b ≡ little (drop (i - 1) bytes)
-unfolding little
-load_turn bytes i w b h k e f g =
-    sym (ap little (drop-cons bytes (i - 1) 0 (omega arith))
-    ∙ ap₂ (λ (x y : ℕ). x % 256 + 256 * y) (sym f) (ap (λ (n : ℕ). little (drop n bytes)) (let s : suc (i - 1) ≡ i = omega arith in s) ∙ sym e)
-    ∙ (let r : b % 256 + 256 * w ≡ w * 256 + b = omega arith in r))
-
--- ---- the bytes of a number, and a number stored into a list
-
-pub length-bytes_of : (n x : ℕ) → length (bytes_of n x) ≡ n
-unfolding bytes_of
-length-bytes_of n x = length-table n (λ i. x / 2 ^ (8 * i) % 256)
-
-bytes_of-add : (m n x : ℕ) → bytes_of (m + n) x ≡ bytes_of m x ++ bytes_of n (x / 2 ^ (8 * m))
-unfolding bytes_of
-bytes_of-add m n x =
-    table-add m n (λ i. x / 2 ^ (8 * i) % 256)
-    ∙ ap (λ (r : List ℕ). table m (λ i. x / 2 ^ (8 * i) % 256) ++ r)
-    (table_same n (λ i. x / 2 ^ (8 * (m + i)) % 256) (λ i. x / 2 ^ (8 * m) / 2 ^ (8 * i) % 256)
-    (λ i h. ap (λ (k : ℕ). x / 2 ^ k % 256) (mul-add 8 m i) ∙ ap (λ (y : ℕ). y % 256) (sym (shr-shr x (8 * m) (8 * i)))))
-
-bytes_of_two : (x : ℕ) → bytes_of 2 x ≡ x % 256 ∷ x / 256 % 256 ∷ []
-unfolding bytes_of table
-bytes_of_two x = ap {B = List ℕ} (λ y. y % 256 ∷ x / 256 % 256 ∷ []) (div-one x)
-
-pub store_pair : (out : List ℕ) (i x : ℕ) → i + 2 ≤ length out → set (set out i (x % 256)) (i + 1) (x / 256 % 256) ≡ put out i (bytes_of 2 x)
-store_pair out i x h =
-    ap (λ (l : List ℕ). set l (i + 1) (x / 256 % 256)) (set-put out i (x % 256) (omega arith))
-    ∙ set-put (put out i (x % 256 ∷ [])) (i + 1) (x / 256 % 256) (let l = length-put out i (x % 256 ∷ []) (omega arith) in omega arith)
-    ∙ put_next out i (x % 256 ∷ []) (omega arith) (x / 256 % 256 ∷ [])
-    ∙ ap (put out i) (sym (bytes_of_two x))
-
--- n bytes, and n more behind them
-pub store_double : (n : ℕ) (out : List ℕ) (i x : ℕ) → i + n ≤ length out → put (put out i (bytes_of n x)) (i + n) (bytes_of n (x / 2 ^ (8 * n))) ≡ put out i (bytes_of (n + n) x)
-store_double n out i x h =
-    let l = length-bytes_of n x in
-    ap (λ (k : ℕ). put (put out i (bytes_of n x)) (i + k) (bytes_of n (x / 2 ^ (8 * n)))) (sym l)
-    ∙ put_next out i (bytes_of n x) (omega arith) (bytes_of n (x / 2 ^ (8 * n)))
-    ∙ ap (put out i) (sym (bytes_of-add n n x))
-
 -- ---- bytes shifted to their place in a word
 
 pub shifted_byte : (w b r : ℕ) → w ≡ b → b < 256 → r < 8 → w * 2 ^ (8 * r) % 2 ^ 64 ≡ b % 256 * 2 ^ (8 * r)
@@ -135,3 +77,54 @@ shifted_byte w b r e h k = ap (λ (n : ℕ). n * 2 ^ (8 * r) % 2 ^ 64) e ∙ shl
 
 pub shifted_few : (s : List ℕ) (r : ℕ) → r + length s ≤ 8 → little s * 2 ^ (8 * r) % 2 ^ 64 ≡ little s * 2 ^ (8 * r)
 shifted_few s r h = shl_exact (8 * length s) (8 * r) 64 (little-lt s) (omega arith)
+
+-- ---- a number loaded from a list
+
+-- one byte more is loaded
+pub load_turn : (bytes : List ℕ) (i w b : ℕ) → i < length bytes → w ≡ little (take i bytes) → b ≡ get_or bytes i 0 → b < 256
+    → length bytes ≤ 8 → bit_xor w (b * 2 ^ (8 * i) % 2 ^ 64) ≡ little (take (i + 1) bytes)
+load_turn bytes i w b h e f g k =
+    let l = length-take-le i bytes (omega arith) in
+    ap₂ bit_xor e (shifted_byte b b i refl g (omega arith) ∙ ap (λ (n : ℕ). b % 256 * 2 ^ (8 * n)) (sym l))
+    ∙ xor-little (take i bytes) b
+    ∙ ap little (ap (λ (x : ℕ). take i bytes ++ (x ∷ [])) f ∙ sym (take-suc bytes i 0 h) ∙ ap (λ (n : ℕ). take n bytes) (sym (add-one i)))
+
+-- what the library says of eight bytes, a sum of what each is worth, is their number
+module _ (w : List ℕ) (bytes : (i : ℕ) → i < length w → get_or w i 0 < 256) where
+  worth : (i : ℕ) → i < length w → byte_worth i (get_or w i 0) ≡ get_or w i 0 % 256 * 2 ^ (8 * i)
+  worth zero h = let k = bytes 0 h in omega arith
+  worth (suc i) h = ap₂ (λ (x y : ℕ). x * y) (sym (mod-eq_of_lt (bytes (suc i) h))) (pow_bytes (suc i))
+
+  one_more : (i : ℕ) → i < length w → little (take i w) + byte_worth i (get_or w i 0) ≡ little (take (suc i) w)
+  one_more i h =
+      ap (λ (x : ℕ). little (take i w) + x) (worth i h ∙ ap (λ (n : ℕ). get_or w i 0 % 256 * 2 ^ (8 * n)) (sym (length-take-le i w (omega arith))))
+      ∙ sym (ap little (take-suc w i 0 h) ∙ little-snoc (take i w) (get_or w i 0))
+
+  worths : (i : ℕ) → i < length w → sum_through (λ k. byte_worth k (get_or w k 0)) i ≡ little (take (suc i) w)
+  unfolding little
+  worths zero h = sym (zero-add _) ∙ one_more 0 h
+  worths (suc i) h = ap (λ (x : ℕ). x + byte_worth (suc i) (get_or w (suc i) 0)) (worths i (omega arith)) ∙ one_more (suc i) h
+
+  pub word-little : length w ≡ 8 → from_le_bytes w64 w ≡ little w
+  word-little h = worths 7 (omega arith) ∙ ap little (take_all 8 w (omega arith))
+
+-- the words that the library makes of a list, whose j-th are its bytes from 8 j on
+pub chunk-at : (k j : ℕ) (l d : List ℕ) → j < k → get_or (first_chunks 8 k l) j d ≡ take 8 (drop (8 * j) l)
+chunk-at zero j l d h = absurd (omega arith)
+chunk-at (suc k) zero l d h = refl
+chunk-at (suc k) (suc j) l d h =
+    chunk-at k j (drop 8 l) d (omega arith) ∙ ap (take 8) (drop-drop (8 * j) 8 l ∙ ap (λ (n : ℕ). drop n l) (let e : 8 + 8 * j ≡ 8 * suc j = omega arith in e))
+
+pub chunk-little : (k j : ℕ) (l d : List ℕ) → j < k → 8 * k ≤ length l → ((i : ℕ) → get_or l i 0 < 256) → from_le_bytes w64 (get_or (first_chunks 8 k l) j d) ≡ little (take 8 (drop (8 * j) l))
+chunk-little k j l d h room bytes = ap (from_le_bytes w64) (chunk-at k j l d h) ∙ word-little (take 8 (drop (8 * j) l)) below eight
+  where
+    eight : length (take 8 (drop (8 * j) l)) ≡ 8
+    eight = length-take-le 8 (drop (8 * j) l) (simp length-drop (omega arith))
+
+    below : (i : ℕ) → i < length (take 8 (drop (8 * j) l)) → get_or (take 8 (drop (8 * j) l)) i 0 < 256
+    below i k = let e = get_or-take 8 (drop (8 * j) l) i 0 (omega (arith, eight)) ∙ get_or-drop (8 * j) l i 0 in let b = bytes (8 * j + i) in omega arith
+
+-- the library's eight bytes of a word, by their rule
+pub word-bytes : (x : ℕ) → to_le_bytes w64 x ≡ table 8 (λ i. x / 2 ^ (8 * i) % 256)
+unfolding table
+word-bytes x = rw div-one refl

@@ -71,7 +71,3 @@ given t (suc n) = given t n ++ (next (moved t n) ∷ [])
 -- n bytes of a state from byte i on
 unfoldable pub bytes_from : List ℕ → ℕ → ℕ → List ℕ
 bytes_from S i n = table n (λ j. byte_at S (i + j))
-
--- the n lowest bytes of a number, the least significant first
-unfoldable pub bytes_of : ℕ → ℕ → List ℕ
-bytes_of n x = table n (λ i. x / 2 ^ (8 * i) % 256)

@@ -43,13 +43,13 @@ impl Sponge {
     {
         let mut lanes = self.lanes;
         let mut at = self.at % RATE;
-        let mut i = 0;
-        while i < bytes.len() {
-            let n = memory::lesser(RATE - at, bytes.len() - i);
-            let e = i + n;
-            part::xor(&mut lanes, at, &bytes[i..e]);
+        let mut rest = bytes;
+        while !rest.is_empty() {
+            let n = (RATE - at).min(rest.len());
+            let (part, later) = rest.split_at(n);
+            part::xor(&mut lanes, at, part);
             at = turn(&mut lanes, at + n);
-            i = e;
+            rest = later;
         }
         Sponge { lanes, at }
     }
@@ -76,19 +76,27 @@ impl Tape {
         let mut lanes = self.lanes;
         let mut at = self.at;
         let mut i = 0;
+        // Stays: going down `out` by `split_at_mut`, as `absorb` does, was tried, and the proof did not close: nothing is known of what `out` then ends as.
         while i < out.len() {
-            at = renew(&mut lanes, at);
-            let n = memory::lesser(RATE - at, out.len() - i);
-            let e = i + n;
-            part::give(&lanes, at, &mut out[i..e]);
-            at = at + n;
-            i = e;
+            at = turn(&mut lanes, at);
+            let n = (RATE - at).min(out.len() - i);
+            part::give(&lanes, at, &mut out[i..i + n]);
+            at += n;
+            i += n;
         }
         Tape { lanes, at }
     }
 }
 
+// SHAKE256 of the message.
+pub fn shake256(message: &[u8], out: &mut [u8])
+    ensures { out.new ≡ shake256 message.now (length out.old) }
+{
+    Sponge::new().absorb(message).finish().squeeze(out);
+}
+
 // SHAKE256 of the first n bytes of a block whose other bytes are 0, in one go: its state is never handed on.
+// Stays: the length beside the block; taking the message alone was tried, and a hash then takes 1 to 2 hundredths longer, since it no longer goes in by whole words.
 pub fn short(block: &[u8], n: usize, out: &mut [u8])
     requires { (n < rate) × (length block.now ≡ rate) × (drop n block.now ≡ replicate (rate - n) 0) }
     ensures { out.new ≡ shake256 (take n block.now) (length out.old) }
@@ -106,20 +114,10 @@ pub fn short(block: &[u8], n: usize, out: &mut [u8])
     tape.squeeze(out);
 }
 
-// The place after a byte of the block: at its end the state is permuted and the next block begins.
+// The place in the block from this one on: at the block's end the state is permuted, and the next block begins.
 fn turn(lanes: &mut [u64; 25], at: usize) -> usize
-    ensures { sponge lanes.new result ≡ turned lanes.old at }
-{
-    if at < RATE {
-        return at;
-    }
-    permute(lanes);
-    0
-}
-
-// The place of a byte to give: at the end of the block the state is permuted and the next block begins.
-fn renew(lanes: &mut [u64; 25], at: usize) -> usize
-    ensures { tape lanes.new result ≡ ready (tape lanes.old at) }
+    ensures sponge { sponge lanes.new result ≡ turned lanes.old at }
+    ensures tape { tape lanes.new result ≡ ready (tape lanes.old at) }
 {
     if at < RATE {
         return at;

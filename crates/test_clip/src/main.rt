@@ -28,10 +28,8 @@ fn main(rt: HostRuntime) -> io::Result<()> {
 
 // Runs every whole case of the list.
 fn run_all(rt: HostRuntime, cases: &[u8]) -> io::Result<()> {
-    let mut at = 0;
-    while at + CASE <= cases.len() {
-        run(rt, &cases[at..at + CASE])?;
-        at += CASE;
+    for case in cases.chunks_exact(CASE) {
+        run(rt, case)?;
     }
     Ok(())
 }
@@ -57,14 +55,10 @@ fn name_len(case: &[u8]) -> usize
     requires { 72 ≤ length case.now }
     ensures { result ≤ 48 }
 {
-    let mut n = NAME_END;
-    while 0 < n {
-        if case[n - 1] != b' ' {
-            return n;
-        }
-        n -= 1;
+    match case[..NAME_END].iter().rposition(|byte| *byte != b' ') {
+        Some(last) => last + 1,
+        None => 0,
     }
-    n
 }
 
 // Makes the clip of a case, and stores it under the name `made`; false where a file could not be read or written.
@@ -95,15 +89,13 @@ fn store(rt: HostRuntime, clip: &[u8], length: usize) -> bool {
         return false;
     }
     match fs::create(&rt, "made") {
-        Ok(made) => {
-            let mut file = made;
-            file.write_all(&clip[0..length]).is_ok()
-        }
+        Ok(mut file) => file.write_all(&clip[0..length]).is_ok(),
         Err(_) => false,
     }
 }
 
 // Reads the file of that name over the start of a part, until the part is full or the file ends, and gives how many bytes that was.
+// Stays: a loop over `read`, since `read_to_end` fills a `Vec` and the project has no heap.
 fn load(rt: HostRuntime, name: &str, part: &mut [u8]) -> io::Result<usize>
     ensures { IfOk result (λ n. n ≤ length part.new) }
 {
@@ -122,10 +114,8 @@ fn load(rt: HostRuntime, name: &str, part: &mut [u8]) -> io::Result<usize>
 // The number that digits spell in decimal, modulo a million.
 fn number(digits: &[u8]) -> usize {
     let mut n: usize = 0;
-    let mut i = 0;
-    while i < digits.len() {
-        n = (n * 10 + digit(digits[i])) % 1000000;
-        i += 1;
+    for byte in digits {
+        n = (n * 10 + digit(*byte)) % 1000000;
     }
     n
 }
@@ -134,5 +124,5 @@ fn number(digits: &[u8]) -> usize {
 fn digit(byte: u8) -> usize
     ensures { result < 16 }
 {
-    byte as usize % 16
+    usize::from(byte) % 16
 }

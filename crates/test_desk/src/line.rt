@@ -1,4 +1,5 @@
 // What the rest of a line says of the bytes that a call was lent: outputs and work are filled before the call, so that a byte that it wrote shows.
+use refusals::Refusal;
 use sponge::Sponge;
 use std::io;
 
@@ -6,16 +7,14 @@ use std::io;
 const WORK: usize = 65536;
 
 // The answer, and what became of work.
-pub fn ended(rt: HostRuntime, answer: u8, work: &[u8]) -> io::Result<()> {
+pub fn ended(rt: HostRuntime, answer: Result<(), Refusal>, work: &[u8]) -> io::Result<()> {
     lines::words(rt, b": answer ")?;
-    lines::number(rt, memory::wide(answer))?;
+    lines::number(rt, usize::from(refusals::number_of(&answer)))?;
     if is_left(0, work) {
-        lines::words(rt, b", work as it was")?;
-        return Ok(());
+        return lines::words(rt, b", work as it was");
     }
     if is_left(WORK, work) {
-        lines::words(rt, b", work cleared")?;
-        return Ok(());
+        return lines::words(rt, b", work cleared");
     }
     lines::words(rt, b", work changed")
 }
@@ -23,8 +22,7 @@ pub fn ended(rt: HostRuntime, answer: u8, work: &[u8]) -> io::Result<()> {
 // All bytes of an output by their digest, where they are not as they were.
 pub fn output(rt: HostRuntime, bytes: &[u8]) -> io::Result<()> {
     if is_left(0, bytes) {
-        lines::words(rt, b", output as it was\n")?;
-        return Ok(());
+        return lines::words(rt, b", output as it was\n");
     }
     lines::words(rt, b", output")?;
     lines::digest_line(rt, bytes)
@@ -32,11 +30,8 @@ pub fn output(rt: HostRuntime, bytes: &[u8]) -> io::Result<()> {
 
 // The same of two outputs, one after the other.
 pub fn outputs(rt: HostRuntime, first: &[u8], second: &[u8]) -> io::Result<()> {
-    if is_left(0, first) {
-        if is_left(0, second) {
-            lines::words(rt, b", output as it was\n")?;
-            return Ok(());
-        }
+    if is_left(0, first) && is_left(0, second) {
+        return lines::words(rt, b", output as it was\n");
     }
     let s = Sponge::new();
     let t = s.absorb(first);
@@ -52,21 +47,12 @@ pub fn fill(out: &mut [u8]) {
 // Whether the first bytes of a part, so many, are zero, and the others are as they were filled.
 fn is_left(zeros: usize, bytes: &[u8]) -> bool {
     let mut x = 17;
-    let mut i = 0;
-    while i < bytes.len() {
-        if memory::wide(bytes[i]) != left(zeros, i, x) {
+    for (i, byte) in bytes.iter().enumerate() {
+        let wanted = if i < zeros { 0 } else { x };
+        if usize::from(*byte) != wanted {
             return false;
         }
         x = (x + 31) % 256;
-        i += 1;
     }
     true
-}
-
-// The byte at a place: zero among the first, else as it was filled.
-fn left(zeros: usize, i: usize, x: usize) -> usize {
-    if i < zeros {
-        return 0;
-    }
-    x
 }

@@ -30,10 +30,8 @@ fn all(
     store: &mut [u8; STORE],
     signature: &mut [u8; SIGNATURE],
 ) -> io::Result<()> {
-    let mut i = ROWS;
-    while i < END {
+    for i in ROWS..END {
         case(rt, i / ROWS, i % ROWS, store, signature)?;
-        i += 1;
     }
     Ok(())
 }
@@ -76,18 +74,10 @@ fn run(
     store: &mut [u8; STORE],
     signature: &mut [u8; SIGNATURE],
 ) -> io::Result<()> {
-    let call = row[0];
-    if call == b'1' {
-        runs::make_keys(rt, set, row, store)?;
-        return Ok(());
+    match row[0] {
+        b'1' => runs::make_keys(rt, set, row, store),
+        b'2' => runs::public_half(rt, set, row, store),
+        b'3' => runs::sign(rt, set, row, store, signature),
+        _ => runs::verify(rt, set, row, store, signature),
     }
-    if call == b'2' {
-        runs::public_half(rt, set, row, store)?;
-        return Ok(());
-    }
-    if call == b'3' {
-        runs::sign(rt, set, row, store, signature)?;
-        return Ok(());
-    }
-    runs::verify(rt, set, row, store, signature)
 }

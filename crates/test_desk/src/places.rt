@@ -84,7 +84,7 @@ fn letter(b: u8) -> usize
     if b < b'a' {
         return 0;
     }
-    memory::wide(b - b'a')
+    usize::from(b - b'a')
 }
 
 // The number in the column that begins at a place: its digits in order, and 0 where there are none.
@@ -93,10 +93,8 @@ fn number(text: &[u8], at: usize) -> usize
     ensures { result < 1000000 }
 {
     let mut n = 0;
-    let mut i = 0;
-    while i < COLUMN {
+    for i in 0..COLUMN {
         n = with_digit(n, byte_at(text, at + i));
-        i += 1;
     }
     n
 }
@@ -125,7 +123,7 @@ pub fn digit(b: u8) -> usize
     if b'9' < b {
         return 0;
     }
-    memory::wide(b - b'0')
+    usize::from(b - b'0')
 }
 
 // A byte of a text; a blank behind its end.
@@ -140,11 +138,9 @@ fn byte_at(text: &[u8], i: usize) -> u8 {
 pub fn part(mark: u8) -> usize
     ensures { result < 1000 }
 {
-    if mark == b'2' {
-        return SECRET_KEY;
+    match mark {
+        b'2' => SECRET_KEY,
+        b'3' => PUBLIC_KEY,
+        _ => 0,
     }
-    if mark == b'3' {
-        return PUBLIC_KEY;
-    }
-    0
 }

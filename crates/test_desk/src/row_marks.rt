@@ -38,13 +38,11 @@ pub fn named(rt: HostRuntime, set: usize, row: &[u8; ROW]) -> io::Result<bool> {
 
 // Whether a set has the cases with this condition: n is odd for sets 3 and 4, and m for the others.
 fn has(set: usize, condition: u8) -> bool {
-    if condition == b'n' {
-        return n_is_odd(set);
+    match condition {
+        b'n' => n_is_odd(set),
+        b'm' => !n_is_odd(set),
+        _ => true,
     }
-    if condition == b'm' {
-        return !n_is_odd(set);
-    }
-    true
 }
 
 // Whether n of a set is odd.
@@ -67,7 +65,7 @@ fn damage(rt: HostRuntime, set: usize, row: &[u8; ROW]) -> io::Result<()> {
         return Ok(());
     }
     lines::words(rt, b" bits ")?;
-    lines::number(rt, memory::wide(bits(row[BITS])))?;
+    lines::number(rt, usize::from(bits(row[BITS])))?;
     lines::words(rt, b" of byte ")?;
     lines::number(rt, places::byte(set, row[PLACE]))?;
     lines::words(rt, b",")
@@ -75,13 +73,11 @@ fn damage(rt: HostRuntime, set: usize, row: &[u8; ROW]) -> io::Result<()> {
 
 // The bits that a mark stands for: the lowest, the highest, the upper four.
 fn bits(mark: u8) -> u8 {
-    if mark == b'u' {
-        return 240;
+    match mark {
+        b'u' => 240,
+        b'h' => 128,
+        _ => 1,
     }
-    if mark == b'h' {
-        return 128;
-    }
-    1
 }
 
 // Changes the bits of the case, where there are some: in the signature, or in the store. The same change again puts them back.
@@ -140,20 +136,12 @@ fn marked(set: usize, i: usize, mark: u8) -> usize
     requires { i < 9 }
 {
     let right = places::right(set, i);
-    if mark == b'.' {
-        return right;
+    match mark {
+        b'.' => right,
+        b'-' => (right + 999999) % 1000000,
+        b'+' => right + 1,
+        b'<' => LONGEST,
+        b'>' => TOO_LONG,
+        _ => digit(mark),
     }
-    if mark == b'-' {
-        return (right + 999999) % 1000000;
-    }
-    if mark == b'+' {
-        return right + 1;
-    }
-    if mark == b'<' {
-        return LONGEST;
-    }
-    if mark == b'>' {
-        return TOO_LONG;
-    }
-    digit(mark)
 }

@@ -10,8 +10,18 @@ use std::io;
 // The bytes of the longest circuit.
 const CIRCUIT: usize = 21600;
 
+// The equations of a set: m of them in n variables, and the bytes of their circuit.
+#[derive(Clone, Copy)]
+pub struct Equations<'a> {
+    pub set: usize,
+    pub n: usize,
+    pub m: usize,
+    pub circuit: &'a [u8],
+    pub ghost sizes: { (n ≤ 118) × (m ≤ 121) × (length circuit.now ≡ circuit_length n m) },
+}
+
 // The circuit of a seed of s bytes, and its values.
-pub fn equations(rt: HostRuntime, set: usize, s: usize, n: usize, m: usize) -> io::Result<()>
+pub fn of_seed(rt: HostRuntime, set: usize, s: usize, n: usize, m: usize) -> io::Result<()>
     requires { (s ≤ 32) × (n ≤ 118) × (m ≤ 121) }
 {
     let mut seed = [0u8; LONGEST_SEED];
@@ -21,38 +31,27 @@ pub fn equations(rt: HostRuntime, set: usize, s: usize, n: usize, m: usize) -> i
         return Ok(());
     }
     let mut circuit = [0u8; CIRCUIT];
-    of_circuit(rt, set, n, m, &seed[0..s], &mut circuit[0..size])
-}
-
-// The same, with room for the circuit.
-fn of_circuit(
-    rt: HostRuntime,
-    set: usize,
-    n: usize,
-    m: usize,
-    seed: &[u8],
-    circuit: &mut [u8],
-) -> io::Result<()>
-    requires { (n ≤ 118) × (m ≤ 121) × (length circuit.old ≡ circuit_length n m) }
-{
-    forms::tape_bytes(seed, circuit);
-    circuit_line(rt, set, n, m, circuit)?;
-    values(rt, set, n, m, circuit)?;
-    shares::linear_parts(rt, set, n, m, circuit)
+    forms::tape_bytes(&seed[..s], &mut circuit[..size]);
+    let of = Equations {
+        set,
+        n,
+        m,
+        circuit: &circuit[..size],
+    };
+    circuit_line(rt, of)?;
+    values(rt, of)?;
+    shares::linear_parts(rt, of)
 }
 
 // The elements of the circuit in the order of their expansion: three tables.
-fn circuit_line(rt: HostRuntime, set: usize, n: usize, m: usize, circuit: &[u8]) -> io::Result<()>
-    requires { (n ≤ 118) × (m ≤ 121) }
-{
-    let size = circuit.len() / 3;
-    let a = size + size;
-    let e = a + size;
-    let first = absorb_table(Sponge::new(), n, m, &circuit[0..size]);
-    let second = absorb_table(first, n, m, &circuit[size..a]);
-    let all = absorb_table(second, n, m, &circuit[a..e]);
-    print::case(rt, set, b"circuit, digest")?;
-    lines::hash_line(rt, all)
+fn circuit_line(rt: HostRuntime, of: Equations<'_>) -> io::Result<()> {
+    let size = of.circuit.len() / 3;
+    let mut hash = Sponge::new();
+    for j in 0..3 {
+        hash = absorb_table(hash, of.n, of.m, &of.circuit[j * size..(j + 1) * size]);
+    }
+    print::case(rt, of.set, "circuit, digest")?;
+    lines::hash_line(rt, hash)
 }
 
 // Absorbs a table: m constants, then m rows of n coefficients.
@@ -65,42 +64,16 @@ fn absorb_table(hash: Sponge, n: usize, m: usize, table: &[u8]) -> Sponge
 }
 
 // y and t of a secret.
-fn values(rt: HostRuntime, set: usize, n: usize, m: usize, circuit: &[u8]) -> io::Result<()>
-    requires { (n ≤ 118) × (m ≤ 121) × (length circuit.now ≡ circuit_length n m) }
-{
+fn values(rt: HostRuntime, of: Equations<'_>) -> io::Result<()> {
+    let (n, m) = (of.n, of.m);
     let mut secret = [0u8; MOST_VARIABLES];
     lines::progression(7, 1, &mut secret);
     lines::elements(&mut secret);
     let mut y = [0u8; MOST_EQUATIONS];
     let mut t = [0u8; MOST_EQUATIONS];
-    values_at(
-        rt,
-        set,
-        n,
-        m,
-        circuit,
-        &secret[0..n],
-        &mut y[0..m],
-        &mut t[0..m],
-    )
-}
-
-// The same, with room for both.
-fn values_at(
-    rt: HostRuntime,
-    set: usize,
-    n: usize,
-    m: usize,
-    circuit: &[u8],
-    secret: &[u8],
-    y: &mut [u8],
-    t: &mut [u8],
-) -> io::Result<()>
-    requires { (n ≤ 118) × (m ≤ 121) × (length circuit.now ≡ circuit_length n m) × (length secret.now ≡ n) × (length y.old ≡ m) × (length t.old ≡ m) }
-{
-    forms::eval_circuit(circuit, n, m, secret, y, t);
-    print::case(rt, set, b"y packed")?;
-    print::packed_line(rt, y)?;
-    print::case(rt, set, b"t packed")?;
-    print::packed_line(rt, t)
+    forms::eval_circuit(of.circuit, n, m, &secret[..n], &mut y[..m], &mut t[..m]);
+    print::case(rt, of.set, "y packed")?;
+    print::packed_line(rt, &y[..m])?;
+    print::case(rt, of.set, "t packed")?;
+    print::packed_line(rt, &t[..m])
 }

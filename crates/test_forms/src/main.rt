@@ -17,34 +17,23 @@ use std::io;
 const LEVELS: usize = 8;
 
 fn main(rt: HostRuntime) -> io::Result<()> {
-    one_set(rt, 1)?;
-    one_set(rt, 2)?;
-    one_set(rt, 3)?;
-    one_set(rt, 4)?;
-    one_set(rt, 5)?;
-    one_set(rt, 6)
+    for set in 1..=6 {
+        one_set(rt, set)?;
+    }
+    Ok(())
 }
 
 // The lines of a set.
 fn one_set(rt: HostRuntime, set: usize) -> io::Result<()> {
     let p = sets::params_of(set);
     let s = p.bits / 8;
-    if LONGEST_SEED < s {
+    if LONGEST_SEED < s || MOST_VARIABLES < p.n || MOST_EQUATIONS < p.m {
         return Ok(());
     }
-    if MOST_VARIABLES < p.n {
+    if MOST_REPETITIONS < p.tau || LEVELS < p.l {
         return Ok(());
     }
-    if MOST_EQUATIONS < p.m {
-        return Ok(());
-    }
-    if MOST_REPETITIONS < p.tau {
-        return Ok(());
-    }
-    if LEVELS < p.l {
-        return Ok(());
-    }
-    circuit::equations(rt, set, s, p.n, p.m)?;
+    circuit::of_seed(rt, set, s, p.n, p.m)?;
     expanded::challenges(rt, set, s, p.m, p.tau)?;
     expanded::hidden_parties(rt, set, s, p.tau, p.l)
 }

@@ -8,16 +8,11 @@ pub fn absorb_vectors(hash: Sponge, bytes: &[u8], from: usize, n: usize, count: 
     requires { (n ≤ 128) × (count ≤ 128) × (from ≤ 64) }
 {
     let width = packed(n);
-    let mut h = hash;
-    let mut at = from;
-    let mut k = 0;
-    while k < count {
-        let next = absorb_vector(h, bytes, at, n);
-        h = next;
-        at += width;
-        k += 1;
+    let mut hash = hash;
+    for k in 0..count {
+        hash = absorb_vector(hash, bytes, from + k * width, n);
     }
-    h
+    hash
 }
 
 // Absorbs the n elements of the vector that is packed from the byte `at` on, an element to a byte; nothing where the bytes end before it does.
@@ -29,13 +24,8 @@ pub fn absorb_vector(hash: Sponge, bytes: &[u8], at: usize, n: usize) -> Sponge
         return hash;
     }
     let mut vector = [0u8; 128];
-    absorb_unpacked(hash, &bytes[at..end], &mut vector[0..n])
-}
-
-// Absorbs as many elements of the bytes as the vector has room for.
-fn absorb_unpacked(hash: Sponge, bytes: &[u8], vector: &mut [u8]) -> Sponge {
-    field::unpack_into(bytes, vector);
-    hash.absorb(vector)
+    field::unpack_into(&bytes[at..end], &mut vector[..n]);
+    hash.absorb(&vector[..n])
 }
 
 // The bytes that n elements take packed.
@@ -43,5 +33,5 @@ pub fn packed(n: usize) -> usize
     requires { n ≤ 128 }
     ensures { result ≤ 64 }
 {
-    (n + 1) / 2
+    n.div_ceil(2)
 }

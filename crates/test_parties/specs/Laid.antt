@@ -1,10 +1,11 @@
 -- What the parts of a case are to each other: the sizes are those that the routines take, and the work has the circuit, the leaves and the room of the answers. Assumes nothing.
 use Rattle.std.specs.Prelude.{◌≡◌, ◌+◌, ◌*◌, ◌^◌, ◌≤◌, ◌<◌}
+use Rattle.std.specs.Option.{ForSome}
 use Rattle.forms.specs.Room.{circuit_length}
 use Rattle.test_parties.specs.declared.cases.Case.{Case}
 
 pub record Laid (k : Case) : Type 0 where
-  pub party : k.hidden ≤ 16 * k.groups
+  pub party : ForSome k.hidden (λ party. (1 ≤ party) × (party ≤ 16 * k.groups))
   pub seed : k.s ≤ 32
   pub variables : k.n ≤ 118
   pub some : 16 ≤ k.m

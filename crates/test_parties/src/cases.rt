@@ -1,18 +1,19 @@
 // The cases of a set, with its sizes and where the parts of the work begin. Case 0 is the signer; to the verifiers of cases 1, 2 and 3 the first, the sixth and the last party
 // is hidden, and to that of case 4 the sixth, and its path is changed.
 ghost use Rattle.std.specs.Prelude.{◌≡◌, ◌*◌, ◌^◌, ◌≤◌, ◌<◌};
+ghost use Rattle.std.specs.Option.{ForSome};
 ghost use Rattle.forms.specs.Room.{circuit_length};
 ghost use Rattle.test_parties.specs.Laid.{Laid};
 
 use sets::{LONGEST_SEED, MOST_EQUATIONS, MOST_VARIABLES};
 
-// The set; the hidden party, or 0 for the signer; 1 where the path is changed, or else 0; the bytes of a seed, the variables, the equations, the levels of the tree, the groups of
+// The set; the hidden party of a verifier, and whether its path is changed; the bytes of a seed, the variables, the equations, the levels of the tree, the groups of
 // sixteen parties and the bytes of a path; and of the work, where the leaves begin, where the room of the answers begins, and its end.
 #[derive(Clone, Copy)]
 pub struct Case {
     pub set: usize,
-    pub hidden: usize,
-    pub changed: usize,
+    pub hidden: Option<usize>,
+    pub changed: bool,
     pub s: usize,
     pub n: usize,
     pub m: usize,
@@ -54,7 +55,7 @@ fn sized(set: usize, i: usize, s: usize, n: usize, m: usize, l: usize, groups: u
     Case {
         set,
         hidden: hidden_of(i, 16 * groups),
-        changed: i / 4,
+        changed: i == 4,
         s,
         n,
         m,
@@ -67,19 +68,15 @@ fn sized(set: usize, i: usize, s: usize, n: usize, m: usize, l: usize, groups: u
     }
 }
 
-// The party that is hidden in case i.
-fn hidden_of(i: usize, last: usize) -> usize
+// The party that is hidden in case i; none from the signer.
+fn hidden_of(i: usize, last: usize) -> Option<usize>
     requires { 6 ≤ last }
-    ensures { result ≤ last }
+    ensures { ForSome result (λ party. (1 ≤ party) × (party ≤ last)) }
 {
-    if i == 0 {
-        return 0;
+    match i {
+        0 => None,
+        1 => Some(1),
+        3 => Some(last),
+        _ => Some(6),
     }
-    if i == 1 {
-        return 1;
-    }
-    if i == 3 {
-        return last;
-    }
-    6
 }

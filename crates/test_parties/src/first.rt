@@ -3,6 +3,7 @@ ghost use Rattle.std.specs.Prelude.{◌≡◌, ◌*◌, ◌≤◌, length};
 ghost use Rattle.test_parties.specs.Laid.{Laid};
 
 use crate::cases::{Case, REPETITION, VALUES, WORK};
+use crate::trial::Trial;
 use sets::{MOST_EQUATIONS, MOST_VARIABLES, Params};
 use sponge::Sponge;
 
@@ -10,22 +11,15 @@ use sponge::Sponge;
 const CHALLENGES: usize = 183;
 
 // The hash after the commitments and the corrections, which are put into their places, as t is.
-pub fn signed(
-    hash: Sponge,
-    k: Case,
-    salt: &[u8],
-    values: &mut [u8; VALUES],
-    work: &[u8; WORK],
-) -> Sponge
-    requires { (Laid k) × (length salt.now ≤ 64) }
-{
-    let n = k.n;
-    let m = k.m;
+pub fn signed(hash: Sponge, t: Trial<'_>, values: &mut [u8; VALUES], work: &[u8; WORK]) -> Sponge {
+    let k = t.case;
     let mut secret = [0u8; MOST_VARIABLES];
     let mut y = [0u8; MOST_EQUATIONS];
-    secret_elements(&mut secret);
-    put_target(k, &secret[0..n], &mut y, values, work);
-    correct(hash, k, salt, &secret[0..n], &y[0..m], values, work)
+    let secret = &mut secret[0..k.n];
+    let y = &mut y[0..k.m];
+    secret_elements(secret);
+    put_target(k, secret, y, values, &work[0..k.leaves]);
+    correct(hash, t, secret, y, values, &work[k.leaves..k.room])
 }
 
 // Fills `out` with the elements of the secret.
@@ -34,91 +28,29 @@ fn secret_elements(out: &mut [u8]) {
     lines::elements(out);
 }
 
-// Puts y to the start of `y`, and t into its place: the values of the secret.
-fn put_target(k: Case, secret: &[u8], y: &mut [u8], values: &mut [u8; VALUES], work: &[u8; WORK])
-    requires { (Laid k) × (length secret.now ≡ k.n) × (length y.old ≡ 121) }
-{
-    let a = k.leaves;
-    let m = k.m;
-    let all = &work[..];
-    let mut t = [0u8; MOST_EQUATIONS];
-    target(k, &all[0..a], secret, &mut y[0..m], &mut t[0..m], values);
-}
-
-// The same, with room for t.
-fn target(k: Case, circuit: &[u8], secret: &[u8], y: &mut [u8], t: &mut [u8], values: &mut [u8])
-    requires { (Laid k) × (length circuit.now ≡ k.leaves) × (length secret.now ≡ k.n) × (length y.old ≡ k.m) × (length t.old ≡ k.m) × (length values.old ≡ 602) }
+// Fills `y` with the second values of the secret, and puts t, its first, into its place.
+fn put_target(k: Case, secret: &[u8], y: &mut [u8], values: &mut [u8], circuit: &[u8])
+    requires { (Laid k) × (length secret.now ≡ k.n) × (length y.old ≡ k.m) × (length values.old ≡ 602) × (length circuit.now ≡ k.leaves) }
 {
     let from = k.n + 2 * k.m;
-    let to = from + k.m;
+    let mut t = [0u8; MOST_EQUATIONS];
+    let t = &mut t[0..k.m];
     forms::eval_circuit(circuit, k.n, k.m, secret, y, t);
-    memory::copy(t, &mut values[from..to]);
+    memory::copy(t, &mut values[from..from + k.m]);
 }
 
-// The same hash for a secret and its y.
+// The same hash for a secret and its y, from the leaves.
 fn correct(
     hash: Sponge,
-    k: Case,
-    salt: &[u8],
+    t: Trial<'_>,
     secret: &[u8],
     y: &[u8],
-    values: &mut [u8; VALUES],
-    work: &[u8; WORK],
-) -> Sponge
-    requires { (Laid k) × (length salt.now ≤ 64) × (length secret.now ≡ k.n) × (length y.now ≡ k.m) }
-{
-    let n = k.n;
-    let m = k.m;
-    let a = k.leaves;
-    let b = k.room;
-    let all = &work[..];
-    let mut ds = [0u8; MOST_VARIABLES];
-    let mut dc = [0u8; MOST_EQUATIONS];
-    correct_in(
-        hash,
-        k,
-        salt,
-        secret,
-        y,
-        &all[a..b],
-        &mut ds[0..n],
-        &mut dc[0..m],
-        values,
-    )
-}
-
-// The same for the leaves, with room for the corrections.
-fn correct_in(
-    hash: Sponge,
-    k: Case,
-    salt: &[u8],
-    secret: &[u8],
-    y: &[u8],
+    values: &mut [u8],
     leaves: &[u8],
-    ds: &mut [u8],
-    dc: &mut [u8],
-    values: &mut [u8; VALUES],
 ) -> Sponge
-    requires { (Laid k) × (length salt.now ≤ 64) × (length secret.now ≡ k.n) × (length y.now ≡ k.m) × (length leaves.now ≡ 16 * k.groups * k.s) × (length ds.old ≡ k.n) × (length dc.old ≡ k.m) }
+    requires { (length secret.now ≡ t.case.n) × (length y.now ≡ t.case.m) × (length values.old ≡ 602) × (length leaves.now ≡ 16 * t.case.groups * t.case.s) }
 {
-    let next = repetition(hash, k, salt, secret, y, leaves, ds, dc);
-    put_corrections(k, ds, dc, values);
-    next
-}
-
-// The hash after the repetition, and its corrections.
-fn repetition(
-    hash: Sponge,
-    k: Case,
-    salt: &[u8],
-    secret: &[u8],
-    y: &[u8],
-    leaves: &[u8],
-    ds: &mut [u8],
-    dc: &mut [u8],
-) -> Sponge
-    requires { (Laid k) × (length salt.now ≤ 64) × (length secret.now ≡ k.n) × (length y.now ≡ k.m) × (length leaves.now ≡ 16 * k.groups * k.s) × (length ds.old ≡ k.n) × (length dc.old ≡ k.m) }
-{
+    let k = t.case;
     let p = Params {
         bits: 8 * k.s,
         n: k.n,
@@ -126,40 +58,24 @@ fn repetition(
         tau: 1,
         l: k.l,
     };
-    views::repetition_first(
-        hash,
-        p,
-        16 * k.groups,
-        salt,
-        REPETITION,
-        leaves,
-        secret,
-        y,
-        ds,
-        dc,
-    )
-}
-
-// Puts both corrections into their places.
-fn put_corrections(k: Case, ds: &[u8], dc: &[u8], values: &mut [u8])
-    requires { (Laid k) × (length values.old ≡ 602) }
-{
-    let n = k.n;
-    let a = n + k.m;
-    memory::copy(ds, &mut values[0..n]);
-    memory::copy(dc, &mut values[n..a]);
+    let mut ds = [0u8; MOST_VARIABLES];
+    let mut dc = [0u8; MOST_EQUATIONS];
+    let ds = &mut ds[0..k.n];
+    let dc = &mut dc[0..k.m];
+    let next = views::repetition_first(hash, p, 16 * k.groups, t.of, leaves, secret, y, ds, dc);
+    memory::copy(ds, &mut values[0..k.n]);
+    memory::copy(dc, &mut values[k.n..k.n + k.m]);
+    next
 }
 
 // Puts the challenge of the repetition into its place.
 pub fn put_challenge(k: Case, h1: &[u8], values: &mut [u8])
     requires { (Laid k) × (length values.old ≡ 602) }
 {
-    let width = (k.m + 1) / 2;
+    let width = k.m.div_ceil(2);
     let from = (REPETITION - 1) * width;
-    let to = from + width;
     let a = k.n + k.m;
-    let b = a + k.m;
     let mut bytes = [0u8; CHALLENGES];
     forms::tape_bytes(h1, &mut bytes);
-    field::unpack_into(&bytes[from..to], &mut values[a..b]);
+    field::unpack_into(&bytes[from..from + width], &mut values[a..a + k.m]);
 }

@@ -10,16 +10,14 @@ use std::io;
 fn name(rt: HostRuntime, k: Case) -> io::Result<()> {
     lines::words(rt, b"set ")?;
     lines::number(rt, k.set)?;
-    if k.hidden == 0 {
-        lines::words(rt, b", signing")?;
-        return Ok(());
+    match k.hidden {
+        None => lines::words(rt, b", signing"),
+        Some(party) => {
+            lines::words(rt, b", hidden ")?;
+            lines::number(rt, party)?;
+            lines::words(rt, if k.changed { b", changed path" } else { b"" })
+        }
     }
-    lines::words(rt, b", hidden ")?;
-    lines::number(rt, k.hidden)?;
-    if 0 < k.changed {
-        lines::words(rt, b", changed path")?;
-    }
-    Ok(())
 }
 
 // The line of these bytes.

@@ -1,11 +1,11 @@
 -- A level spread out around the hidden parent, as bytes: the pair that is put in its place, the level below, and the leaves that are rebuilt.
 -- Assumes nothing.
-use mathlib.Core.Path.{◌≡◌, sym, ap, ap₂, ◌∙◌, subst}
+use mathlib.Core.Path.{◌≡◌, refl, sym, ap, ap₂, ◌∙◌, subst}
 use mathlib.Core.Bool.{Bool, cond}
 use mathlib.Core.List.{List, [], ◌∷◌, ◌++◌, append-nil, flatten}
 use mathlib.Core.Option.{Option}
 use Prim.Native.Nat.{ℕ, suc, ◌+◌, ◌-◌, ◌*◌, ◌/◌, ◌%◌, ◌^◌, ◌≤◌, ◌<◌}
-use native.Mathlib.Nat.{zero-mul, one-mul, suc-mul, add-mul, sub-zero, mul_comm}
+use native.Mathlib.Nat.{mul-le-mul_right, zero-mul, one-mul, suc-mul, add-mul, sub-zero}
 use native.Mathlib.Numerals.{add-one}
 use native.Mathlib.Omega.{arith}
 use lib.ListN.{length, get_or, take, drop, set, replicate, length-replicate, length-append, length-drop}
@@ -18,10 +18,10 @@ use Rattle.memory.proofs.Sections.{Each, no_section, one_more, each_append, put-
 use Rattle.tree.specs.Tree.{children, new_seeds, position, sibling, get_seeds, get_path, get_path_seeds, filled}
 use Rattle.tree.specs.Spread.{spread, beside_blank, around}
 use Rattle.tree.proofs.Coded.{coded_at, coded}
-use Rattle.tree.proofs.Positions.{Bit, even, odd, bit, sibling_odd, sibling-even}
+use Rattle.tree.proofs.Positions.{Bit, even, odd, bit, sibling_odd, sibling-even, sibling_rule}
 use Rattle.tree.proofs.Levels.{Kids}
 use Rattle.tree.proofs.Hiding.{length-beside_blank, length-around, filled-hide}
-use Rattle.tree.proofs.Laying.{Sized, children-sized, each_new_seeds, twice, double, length-spread, spread_fits, spread_level}
+use Rattle.tree.proofs.Laying.{Sized, children-sized, each_new_seeds, twice, double, length-spread, spread_fits, spread_level, pow_next}
 use Rattle.tree.proofs.Theorems.{filled-get_path_seeds, path_rebuilds_the_others}
 use Rattle.tree.proofs.Walking.{pieces-path}
 
@@ -44,20 +44,14 @@ sibling_of_odd : (p S : ℕ) → p % 2 ≡ 1 → p ≡ 2 * (p / 2) + 1 → sibli
 sibling_of_odd p S e g =
     ap (λ (n : ℕ). n * S) (sibling_odd p e ∙ (let t : p - 1 ≡ 2 * (p / 2) = omega arith in t)) ∙ twice (p / 2) S
 
-module _ (p S m : ℕ) (fits : (p / 2 + 1) * (2 * S) ≤ m) where
-  pub place-room : p * S + S ≤ m
-  place-room = by_bit (bit p)
-    where
-      by_bit : Bit p → p * S + S ≤ m
-      by_bit (even t e g) = let a = p_even p S g in let b = next_pair (p / 2) S in omega arith
-      by_bit (odd t e g) = let a = p_odd p S g in let b = next_pair (p / 2) S in omega arith
-
-  pub sibling-room : sibling p * S + S ≤ m
-  sibling-room = by_bit (bit p)
-    where
-      by_bit : Bit p → sibling p * S + S ≤ m
-      by_bit (even t e g) = let a = sibling_of_even p S e g in let b = next_pair (p / 2) S in omega arith
-      by_bit (odd t e g) = let a = sibling_of_odd p S e g in let b = next_pair (p / 2) S in omega arith
+-- a child q of the parent of p has its place within that parent's pair
+pub child_room : (q p S m : ℕ) → q / 2 ≡ p / 2 → (p / 2 + 1) * (2 * S) ≤ m → q * S + S ≤ m
+child_room q p S m e h =
+    let a = mul-le-mul_right {m = q + 1} {n = 2 * (p / 2 + 1)} S (omega arith) in
+    let b = add-mul q 1 S in
+    let d = one-mul S in
+    let t = twice (p / 2 + 1) S in
+    omega arith
 
 -- the seed given at the sibling's place and the blank at p
 pub pair_put : (p S : ℕ) (own blank out : List ℕ) → length own ≡ S → length blank ≡ S → (p / 2 + 1) * (2 * S) ≤ length out →
@@ -87,12 +81,12 @@ pub placed : (p S o : ℕ) (own out last x zeros : List ℕ) → o ≡ sibling p
     zeros ≡ replicate (length (take (p * S + S - p * S) (drop (p * S) x))) 0 →
     take (p * S) x ++ (zeros ++ drop (p * S + S - p * S) (drop (p * S) x)) ≡ put out (p / 2 * (2 * S)) (flatten (beside_blank p own (replicate S 0)))
 placed p S o own out last x zeros q a h l f z =
-    cleared-part x (p * S) (p * S + S) zeros (let r = place-room p S (length out) h in let n = ap length written ∙ size in omega arith) (omega arith) z
+    cleared-part x (p * S) (p * S + S) zeros (let r = child_room p p S (length out) refl h in let n = ap length written ∙ size in omega arith) (omega arith) z
     ∙ ap₂ (λ (y : List ℕ) (n : ℕ). put y (p * S) (replicate n 0)) (written ∙ ap (λ (n : ℕ). put out (n * S) own) q) (let t : p * S + S - p * S ≡ S = omega arith in t)
     ∙ pair_put p S own (replicate S 0) out a (length-replicate S 0) h
   where
     inside : o * S + S ≤ length out
-    inside = let r = sibling-room p S (length out) h in let t = ap (λ (n : ℕ). n * S) q in omega arith
+    inside = child_room o p S (length out) (ap (λ (n : ℕ). n / 2) q ∙ (sibling_rule p).parent) h
 
     written : x ≡ put out (o * S) own
     written = f ∙ copied_part out (o * S) (o * S + S) own last (a ∙ (let t : S ≡ o * S + S - o * S = omega arith in t)) inside (omega arith) l
@@ -193,32 +187,32 @@ module _ (S : ℕ) (salt : List ℕ) (e L : ℕ) (path : List ℕ) (h : ℕ) whe
   pub own_piece : (k : ℕ) → k < L → take (k * S + S - k * S) (drop (k * S) path) ≡ get_or (pieces S L path) k []
   own_piece k g = ap (λ (n : ℕ). take n (drop (k * S) path)) (let t : k * S + S - k * S ≡ S = omega arith in t) ∙ sym (get_or-pieces S L path k g)
 
-  pub around_turn : (k n p : ℕ) (own x y : List ℕ) → pieces S n x ≡ coded_at (children S salt e) L (pieces S L path) h (replicate S 0) k →
-      p / 2 < n → p ≡ position L h (suc k) → own ≡ get_or (pieces S L path) k [] → length own ≡ S →
+  pub around_turn : (k n p : ℕ) (own x y : List ℕ) → n ≡ 2 ^ k → pieces S (2 ^ k) x ≡ coded_at (children S salt e) L (pieces S L path) h (replicate S 0) k →
+      p / 2 < 2 ^ k → p ≡ position L h (suc k) → own ≡ get_or (pieces S L path) k [] → length own ≡ S →
       y ≡ put x 0 (flatten (around (children S salt e k) p own (replicate S 0) (pieces S n x))) →
-      pieces S (n * 2) y ≡ coded_at (children S salt e) L (pieces S L path) h (replicate S 0) (k + 1)
+      pieces S (2 ^ (k + 1)) y ≡ coded_at (children S salt e) L (pieces S L path) h (replicate S 0) (k + 1)
   unfolding coded_at
-  around_turn k n p own x y f i q o a r =
-      ap₂ (pieces S) count r
-      ∙ pieces-put (each_around S (children S salt e k) (children-sized S salt e k) p own (replicate S 0) (pieces S n x) a (length-replicate S 0)) x
+  around_turn k n p own x y m f i q o a r =
+      ap₂ (pieces S) count (r ∙ ap (λ (j : ℕ). put x 0 (flatten (around (children S salt e k) p own (replicate S 0) (pieces S j x)))) m)
+      ∙ pieces-put (each_around S (children S salt e k) (children-sized S salt e k) p own (replicate S 0) (pieces S (2 ^ k) x) a (length-replicate S 0)) x
       ∙ ap (around (children S salt e k) p own (replicate S 0)) f
       ∙ ap₂ (λ (j : ℕ) (s : List ℕ). around (children S salt e k) j s (replicate S 0) (coded_at (children S salt e) L (pieces S L path) h (replicate S 0) k)) q o
       ∙ ap (coded_at (children S salt e) L (pieces S L path) h (replicate S 0)) (sym (add-one k))
     where
-      count : n * 2 ≡ length (around (children S salt e k) p own (replicate S 0) (pieces S n x))
+      count : 2 ^ (k + 1) ≡ length (around (children S salt e k) p own (replicate S 0) (pieces S (2 ^ k) x))
       count =
-          mul_comm n 2 ∙ ap (λ (m : ℕ). 2 * m) (sym (length-pieces S n x))
-          ∙ sym (length-around (children S salt e k) p own (replicate S 0) (pieces S n x) (let l = length-pieces S n x in omega arith))
+          pow_next k ∙ ap (λ (m : ℕ). 2 * m) (sym (length-pieces S (2 ^ k) x))
+          ∙ sym (length-around (children S salt e k) p own (replicate S 0) (pieces S (2 ^ k) x) (let l = length-pieces S (2 ^ k) x in omega arith))
 
   -- the last level is what algorithm 5 gives, with zeros in the hidden place
-  pub rebuilt : (k n : ℕ) (x : List ℕ) → k ≡ L → n ≡ 2 ^ k → length x ≡ 2 ^ L * S → h - 1 < 2 ^ L →
-      pieces S n x ≡ coded_at (children S salt e) L (pieces S L path) h (replicate S 0) k →
+  pub rebuilt : (k : ℕ) (x : List ℕ) → k ≡ L → length x ≡ 2 ^ L * S → h - 1 < 2 ^ L →
+      pieces S (2 ^ k) x ≡ coded_at (children S salt e) L (pieces S L path) h (replicate S 0) k →
       x ≡ flatten (filled (replicate S 0) (get_path_seeds (children S salt e) L (pieces S L path) h))
   unfolding coded
-  rebuilt k n x a b l legal f =
+  rebuilt k x a l legal f =
       sym (flatten-pieces S (2 ^ L) x l)
       ∙ ap flatten
-      (ap (λ (m : ℕ). pieces S m x) (sym (b ∙ ap (λ (i : ℕ). 2 ^ i) a)) ∙ f
+      (ap (λ (i : ℕ). pieces S (2 ^ i) x) (sym a) ∙ f
       ∙ ap (coded_at (children S salt e) L (pieces S L path) h (replicate S 0)) a
       ∙ sym (filled-get_path_seeds (children S salt e) L h legal (pieces S L path) (replicate S 0)))
 

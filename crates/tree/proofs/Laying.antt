@@ -2,16 +2,15 @@
 -- Assumes nothing.
 use mathlib.Core.Path.{◌≡◌, refl, sym, ap, ap₂, ◌∙◌}
 use mathlib.Core.List.{List, [], ◌∷◌, ◌++◌, append_assoc, flatten}
-use Prim.Native.Nat.{ℕ, zero, suc, ◌+◌, ◌-◌, ◌*◌, ◌^◌, ◌≤◌, ◌<◌}
+use Prim.Native.Nat.{ℕ, zero, suc, ◌+◌, ◌-◌, ◌*◌, ◌%◌, ◌^◌, ◌≤◌, ◌<◌}
 use native.Mathlib.Numerals.{add-one}
 use lib.Pow.{pow_mono, pow_pos}
-use native.Mathlib.Nat.{pow-succ', mul-le-mul_right, one-mul, sub-zero, zero-mul, suc-mul, add-mul, mul_assoc, mul_comm, sub_self}
+use native.Mathlib.Nat.{mod-eq_of_lt, pow-succ', mul-le-mul_right, one-mul, sub-zero, zero-mul, suc-mul, add-mul, mul_assoc, mul_comm, sub_self}
 use native.Mathlib.Omega.{arith}
 use lib.ListN.{length, take, drop, length-drop, take-append-drop}
 use lib.Seq.{take_at, length-take-le, drop-drop}
 use Rattle.memory.specs.Lists.{over, put}
 use Rattle.memory.specs.Sections.{pieces}
-use Rattle.memory.proofs.Lists.{room}
 use Rattle.memory.proofs.Parts.{lent-put, mid_put, over_fits}
 use Rattle.memory.proofs.Sections.{copied_part, Each, no_section, one_more, put-nil, put-before, part-before-put, length-flatten, length-pieces, pieces-put, flatten-pieces}
 use Rattle.sponge.specs.Sponge.{shake256}
@@ -129,13 +128,6 @@ module _ (S : ℕ) (salt : List ℕ) (e k : ℕ) where
       let t : i ≡ suc (i - 1) = omega arith in
       spread_turn_suc (i - 1) to x y z (omega arith) h (ey ∙ ap (λ (n : ℕ). put x (n * (2 * S)) (spread S (children S salt e k) n to x)) t) ez
 
--- the parent at j, below n parents that have room for their children, and where its children go
-pub parent_room : (S n j m : ℕ) → j < n → n * (2 * S) ≤ m → j * S + S ≤ m
-parent_room S n j m h g = let r = room j n S h in let d = double n S in omega arith
-
-pub children-room : (S n j m : ℕ) → j < n → n * (2 * S) ≤ m → j * (2 * S) + 2 * S ≤ m
-children-room S n j m h g = let r = room j n (2 * S) h in omega arith
-
 -- ---- one parent
 
 -- the children of a seed that was copied to a place of its own, put where they belong
@@ -176,8 +168,16 @@ level_room S k l h =
     let c = mul-le-mul_right {m = 2 ^ suc k} {n = 2 ^ l} S (pow_mono {i = suc k} {j = l} h) in
     omega arith
 
+-- the level below has twice as many seeds
+pub pow_next : (k : ℕ) → 2 ^ (k + 1) ≡ 2 * 2 ^ k
+pow_next k = ap (λ (i : ℕ). 2 ^ i) (add-one k) ∙ pow-succ' 2 k
+
 pub pow_small : (k : ℕ) → k ≤ 8 → 2 ^ k ≤ 256
 pow_small k h = pow_mono {i = k} {j = 8} h
+
+-- the same number as the code shifts it
+pub shifted_one : (k : ℕ) → k ≤ 8 → 1 * 2 ^ k % 2 ^ 64 ≡ 2 ^ k
+shifted_one k h = ap (λ (i : ℕ). i % 2 ^ 64) (one-mul (2 ^ k)) ∙ mod-eq_of_lt (let s = pow_small k h in omega arith)
 
 pub seed-room : (S l : ℕ) → S ≤ 2 ^ l * S
 seed-room S l = let a = mul-le-mul_right {m = 1} {n = 2 ^ l} S (pow_pos l) in let b = one-mul S in omega arith
@@ -192,26 +192,22 @@ unfolding pieces
 root_lies root x h = ap (λ (y : List ℕ). y ∷ []) (ap (take (length root)) (over_fits root x h) ∙ take_at root (drop (length root) x) (length root) refl)
 
 -- a level whose parents are all spread out is the next level
-pub level_turn : (S : ℕ) (salt : List ℕ) (e : ℕ) (root : List ℕ) (k n : ℕ) (x y : List ℕ) → pieces S n x ≡ seeds_at (children S salt e) root k →
-    y ≡ put x (0 * (2 * S)) (spread S (children S salt e k) 0 n x) → pieces S (n * 2) y ≡ seeds_at (children S salt e) root (k + 1)
+pub level_turn : (S : ℕ) (salt : List ℕ) (e : ℕ) (root : List ℕ) (k n : ℕ) (x y : List ℕ) → n ≡ 2 ^ k → pieces S (2 ^ k) x ≡ seeds_at (children S salt e) root k →
+    y ≡ put x (0 * (2 * S)) (spread S (children S salt e k) 0 n x) → pieces S (2 ^ (k + 1)) y ≡ seeds_at (children S salt e) root (k + 1)
 unfolding seeds_at
-level_turn S salt e root k n x y h f =
-    ap₂ (pieces S) count (f ∙ ap₂ (put x) (zero-mul (2 * S)) (spread_level S (children S salt e k) n x))
-    ∙ pieces-put (each_new_seeds S (children S salt e k) (children-sized S salt e k) 0 (pieces S n x)) x
+level_turn S salt e root k n x y i h f =
+    ap₂ (pieces S) count (f ∙ ap₂ (put x) (zero-mul (2 * S)) (spread_level S (children S salt e k) n x ∙ ap (λ (m : ℕ). flatten (new_seeds (children S salt e k) 0 (pieces S m x))) i))
+    ∙ pieces-put (each_new_seeds S (children S salt e k) (children-sized S salt e k) 0 (pieces S (2 ^ k) x)) x
     ∙ ap (new_seeds (children S salt e k) 0) h
     ∙ ap (seeds_at (children S salt e) root) (sym (add-one k))
   where
-    count : n * 2 ≡ length (new_seeds (children S salt e k) 0 (pieces S n x))
-    count = mul_comm n 2 ∙ ap (λ (m : ℕ). 2 * m) (sym (length-pieces S n x)) ∙ sym (length-new_seeds (children S salt e k) 0 (pieces S n x))
+    count : 2 ^ (k + 1) ≡ length (new_seeds (children S salt e k) 0 (pieces S (2 ^ k) x))
+    count = pow_next k ∙ ap (λ (m : ℕ). 2 * m) (sym (length-pieces S (2 ^ k) x)) ∙ sym (length-new_seeds (children S salt e k) 0 (pieces S (2 ^ k) x))
 
 -- the last level is the leaves
-pub leaves_lie : (S : ℕ) (salt : List ℕ) (e l : ℕ) (root : List ℕ) (k n : ℕ) (x : List ℕ) → k ≡ l → n ≡ 2 ^ k → length x ≡ 2 ^ l * S →
-    pieces S n x ≡ seeds_at (children S salt e) root k → x ≡ flatten (get_seeds (children S salt e) l root)
+pub leaves_lie : (S : ℕ) (salt : List ℕ) (e l : ℕ) (root : List ℕ) (k : ℕ) (x : List ℕ) → k ≡ l → length x ≡ 2 ^ l * S →
+    pieces S (2 ^ k) x ≡ seeds_at (children S salt e) root k → x ≡ flatten (get_seeds (children S salt e) l root)
 unfolding get_seeds
-leaves_lie S salt e l root k n x a b h f =
+leaves_lie S salt e l root k x a h f =
     sym (flatten-pieces S (2 ^ l) x h)
-    ∙ ap flatten (ap (λ (m : ℕ). pieces S m x) (sym (b ∙ ap (λ (i : ℕ). 2 ^ i) a)) ∙ f ∙ ap (seeds_at (children S salt e) root) a)
-
--- fewer parents take less room
-pub pairs_le : (S i n : ℕ) → i ≤ n → i * (2 * S) ≤ n * (2 * S)
-pairs_le S i n h = mul-le-mul_right (2 * S) h
+    ∙ ap flatten (ap (λ (i : ℕ). pieces S (2 ^ i) x) (sym a) ∙ f ∙ ap (seeds_at (children S salt e) root) a)

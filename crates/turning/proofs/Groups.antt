@@ -24,11 +24,11 @@ unfolding TurnedTo Turned
 turned_all n x y e t w j q h hj hq = t w j q (omega arith) hj hq
 
 -- one group more
-pub turned_more : (x y ys : List ℕ) (at : ℕ) → at % 16 ≡ 0 → at + 16 ≤ length y → length ys ≡ 16
+pub turned_more : (x y ys : List ℕ) (at n : ℕ) → at % 16 ≡ 0 → n ≡ at + 16 → at + 16 ≤ length y → length ys ≡ 16
     → TurnedTo at x y → Transposed (take (at + 16 - at) (drop at x)) ys
-    → TurnedTo (at + 16) x (take at y ++ (ys ++ drop (at + 16 - at) (drop at y)))
+    → TurnedTo n x (take at y ++ (ys ++ drop (at + 16 - at) (drop at y)))
 unfolding TurnedTo Transposed
-turned_more x y ys at whole room len t f w j q h hj hq =
+turned_more x y ys at n whole next room len t f w j q h hj hq =
     let e : take at y ++ (ys ++ drop (at + 16 - at) (drop at y)) ≡ put y at ys = lent-put y at (at + 16) ys (omega arith) in
     ap (λ (l : List ℕ). lane q (get_or l (16 * w + j) 0)) e ∙ entry
   where

@@ -15,10 +15,8 @@ pub fn to_lanes(tapes: &[u64], out: &mut [u64])
     requires { (length tapes.now ≡ length out.old) × (length tapes.now % 16 ≡ 0) }
     ensures { Turned tapes.now out.new }
 {
-    let mut at = 0;
-    while at < tapes.len() {
-        transpose(&tapes[at..at + 16], &mut out[at..at + 16]);
-        at += 16;
+    for w in 0..tapes.len() / 16 {
+        transpose(&tapes[16 * w..16 * w + 16], &mut out[16 * w..16 * w + 16]);
     }
 }
 
@@ -27,11 +25,11 @@ pub fn transpose(x: &[u64], y: &mut [u64])
     requires { (length x.now ≡ 16) × (length y.old ≡ 16) }
     ensures { Transposed x.now y.new }
 {
-    let a = turn::stage8(x);
-    let b = turn::stage4(a);
-    let c = turn::stage2(b);
-    let d = turn::stage1(c);
-    lanes::copy_words(&d, y);
+    let a = turn::stage::<8>(x, turn::EVEN8);
+    let b = turn::stage::<4>(&a, turn::EVEN4);
+    let c = turn::stage::<2>(&b, turn::EVEN2);
+    let d = turn::stage::<1>(&c, turn::EVEN1);
+    y.copy_from_slice(&d);
 }
 
 // Lanes back to packed bytes: the sixteen vectors, one in each lane, packed together in party order. Later bytes are kept.

@@ -9,8 +9,8 @@ pub fn turn_back(words: &[u64], padded: &mut [u64], turned: &mut [u64])
 {
     let m = words.len();
     let n = (m + 15) / 16 * 16;
-    lanes::copy_words(words, padded);
-    lanes::copy_words(&words[m - 16..m], &mut padded[n..n + 16]);
+    memory::copy(words, padded);
+    memory::copy(&words[m - 16..m], &mut padded[n..n + 16]);
     crate::to_lanes(&padded[0..n + 16], &mut turned[0..n + 16]);
 }
 
@@ -22,15 +22,13 @@ pub fn write_windows(words: &[u64], turned: &[u64], out: &mut [u8])
     let m = words.len();
     let mut q = 0;
     let mut k = 0;
-    let mut o = 0;
-    while o < m {
+    for o in 0..m {
         lanes::put_word(out, 8 * o, elements_from(words, turned, q, k));
         k += 16;
         if k >= m {
             k -= m;
             q += 1;
         }
-        o += 1;
     }
 }
 

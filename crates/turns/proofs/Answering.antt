@@ -1,21 +1,19 @@
 -- What the answers of a repetition are lent: its numbers, and the parts of work as the code cuts them.
 -- Assumes nothing.
-use mathlib.Core.Path.{◌≡◌, sym, ap, ap₂, ◌∙◌, subst}
+use mathlib.Core.Path.{◌≡◌, sym, ap, ◌∙◌, subst}
 use mathlib.Core.List.{List}
-use Prim.Native.Nat.{ℕ, ◌+◌, ◌-◌, ◌*◌, ◌≤◌}
+use Prim.Native.Nat.{ℕ, ◌+◌, ◌-◌, ◌*◌}
 use native.Mathlib.Omega.{arith}
-use lib.ListN.{length, take, drop}
+use lib.ListN.{length}
 use Rattle.sets.specs.declared.Params.{Params}
 use Rattle.forms.specs.Circuit.{Circuit}
 use Rattle.forms.specs.Room.{circuit_length, HoldsCircuit}
 use Rattle.group.specs.declared.Rep.{Rep}
 use Rattle.group.specs.Shares.{values_length}
-use Rattle.biscuit.specs.Room.{Fits, leaves_at, room_at, roots_at, room_end}
-use Rattle.biscuit.proofs.Parts.{length-first}
+use Rattle.biscuit.specs.Room.{Fits, leaves_at, room_at, roots_at}
 use Rattle.biscuit.proofs.Room.{mapped}
 use Rattle.reps.specs.Reps.{rep_of}
-use Rattle.turns.specs.Turns.{circuit_part, leaves_part}
-use Rattle.turns.proofs.Sizes.{leaves_is, roots_is, leaves-groups, leaves_size, leaves-length}
+use Rattle.turns.proofs.Sizes.{leaves_is, roots_is, leaves-groups}
 
 -- ---- the numbers of a repetition
 
@@ -26,8 +24,8 @@ module _ (P : Params) (f : Fits P) (e h : ℕ) (rep : Rep) (same : rep ≡ rep_o
   pub rep_equations : P.m ≡ rep.m
   rep_equations = sym (ap (λ (q : Rep). q.m) same)
 
-  pub rep_values : P.n + P.m + P.m + P.m + P.m ≡ values_length rep
-  rep_values = sym (ap (λ (q : Rep). values_length q) same)
+  pub rep_values : (v : List ℕ) → length v ≡ P.n + 4 * P.m → length v ≡ values_length rep
+  rep_values v h = subst (λ (q : Rep). length v ≡ values_length q) (sym same) (omega arith)
 
   pub rep_circuit : circuit_length rep.n rep.m ≡ leaves_at P
   rep_circuit = ap (λ (q : Rep). circuit_length q.n q.m) same ∙ sym (leaves_is P)
@@ -43,18 +41,3 @@ module _ (P : Params) (f : Fits P) (e h : ℕ) (rep : Rep) (same : rep ≡ rep_o
 
   pub rep_holds : (c : Circuit) (a b : List ℕ) → a ≡ b → HoldsCircuit P.n P.m c b → HoldsCircuit rep.n rep.m c a
   rep_holds c a b ab held = subst (λ (q : Rep). HoldsCircuit q.n q.m c a) (sym same) (subst (HoldsCircuit P.n P.m c) (sym ab) held)
-
--- ---- circuit and leaves, as they are lent
-
-module _ (P : Params) (f : Fits P) (w : List ℕ) (enough : room_end P ≤ length w) (c d : ℕ) (ec : c ≡ leaves_at P) (ed : d ≡ room_at P) where
-  pub circuit-lent : take (c - 0) (drop 0 w) ≡ circuit_part P w
-  circuit-lent = ap (λ (n : ℕ). take n w) (let q : c - 0 ≡ leaves_at P = omega arith in q)
-
-  pub circuit-sized : length (take (c - 0) (drop 0 w)) ≡ leaves_at P
-  circuit-sized = length-first w c (let m = mapped P in omega arith) ∙ ec
-
-  pub leaves-lent : take (d - c) (drop c w) ≡ leaves_part P w
-  leaves-lent = ap₂ (λ (i j : ℕ). take (j - i) (drop i w)) ec ed
-
-  pub leaves-sized : length (take (d - c) (drop c w)) ≡ room_at P - leaves_at P
-  leaves-sized = leaves-length P f w enough c d ec ed ∙ sym (leaves_size P f)

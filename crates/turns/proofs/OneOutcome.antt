@@ -35,17 +35,17 @@ answered_fixed P e h salt values before v w lv lw hv hw x y =
         let m = mapped P in
         length-lent l (room_at P) (roots_at P) (omega arith) (omega arith) ∙ (let q : roots_at P - room_at P ≡ groups P * (16 * P.m) = omega arith in q)
 
-pub turn_one_outcome : OneOutcome turn.Kinds.ps turn.Kinds.r turn.Reads.Asked (λ κs a r e. turn.Reads.Learnt κs a r e × Bytes e.1.1.1.1.1.1.0.now)
+pub turn_one_outcome : OneOutcome turn.Kinds.ps turn.Kinds.r turn.Reads.Asked (λ κs a r e. turn.Reads.Learnt κs a r e × Bytes e.1.1.0.now)
 turn_one_outcome κs a good asked o q x y =
     let p = x.promised.0 in
     let r = y.promised.0 in
-    let k = x.kept.1.1.1.1.1.1.0 in
-    let l = y.kept.1.1.1.1.1.1.0 in
-    let n = asked.6 in
+    let k = x.kept.1.1.0 in
+    let l = y.kept.1.1.0 in
+    let n = asked.0 in
     let first = p.0.first ∙ sym r.0.first in
     let second = p.0.second ∙ sym r.0.second in
-    let work = answered_fixed a.1.0 a.1.1.0 _ _ _ _ _ _ (omega arith) (omega arith) x.promised.1 y.promised.1 p.1 r.1 in
-    λ i. (record { first = first i; second = second i }, (tt, (tt, (tt, (tt, (tt, (tt, (work i, tt))))))))
+    let work = answered_fixed a.1.0.claim.p a.1.0.e _ _ _ _ _ _ (omega arith) (omega arith) x.promised.1 y.promised.1 p.1 r.1 in
+    λ i. (record { first = first i; second = second i }, (tt, (tt, (work i, tt))))
 
 pub turn_two_one_outcome : OneOutcome turn_two.Kinds.ps turn_two.Kinds.r turn_two.Reads.Asked turn_two.Reads.Learnt
 turn_two_one_outcome κs a good asked o q x y =
@@ -54,4 +54,4 @@ turn_two_one_outcome κs a good asked o q x y =
     let first = p.0.first ∙ sym r.0.first in
     let second = p.0.second ∙ sym r.0.second in
     let work = p.1 ∙ sym r.1 in
-    λ i. (record { first = first i; second = second i }, (tt, (tt, (tt, (tt, (tt, (tt, (work i, tt))))))))
+    λ i. (record { first = first i; second = second i }, (tt, (tt, (work i, tt))))

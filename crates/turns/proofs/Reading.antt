@@ -1,6 +1,6 @@
 -- The elements that a repetition reads are those that algorithm 13 extracts; and laid one after another they are read off again.
 -- Assumes nothing.
-use mathlib.Core.Path.{◌≡◌, refl, sym, ap, ap₂, ◌∙◌, subst}
+use mathlib.Core.Path.{◌≡◌, sym, ap, ap₂, ◌∙◌, subst}
 use mathlib.Core.List.{List, ◌++◌, append_assoc}
 use Prim.Native.Nat.{ℕ, ◌+◌, ◌-◌, ◌*◌, ◌/◌, ◌≤◌}
 use native.Mathlib.Nat.{add_assoc}
@@ -17,14 +17,14 @@ use Rattle.forms.specs.Sampling.{sample_elements, expand_elements}
 use Rattle.forms.specs.Room.{challenge_in}
 use Rattle.parties.specs.Repetition.{challenge}
 use Rattle.biscuit.specs.Keys.{PublicKey, public_key_of}
-use Rattle.biscuit.specs.Signature.{packing_at, vector_count, packed_vectors, opening_of, extracted}
+use Rattle.biscuit.specs.Signature.{Signature, packing_at, vector_count, packed_vectors, opening_of, extracted}
 use Rattle.biscuit.specs.Verify.{ε}
-use Rattle.biscuit.proofs.Parts.{four_sizes, four_sections}
 use Rattle.biscuit.proofs.Places.{Δs-at, Δc-at, α-at}
 use Rattle.biscuit.proofs.Repeated.{among, append-elements, take-elements, drop-elements}
 use Rattle.vectors.specs.Elements.{elements_at}
 use Rattle.vectors.proofs.Elements.{elements_at_of, elements_at_first}
-use Rattle.turns.specs.Turns.{values_of}
+use Rattle.turns.specs.declared.claim.Repetition.{Repetition}
+use Rattle.turns.specs.Turns.{key_of, signature_of, values_of}
 
 read_two : (b : List ℕ) (at n m : ℕ) → elements_at b at (n + m) ≡ elements_at b at n ++ elements_at b (at + n) m
 unfolding elements_at
@@ -121,28 +121,16 @@ cut n m v a b c d f la lb lc ld lf is = record {
 
 -- ---- the values of a repetition
 
-module _ (P : Params) (key : PublicKey) (x : List ℕ) (e : ℕ) (from_one : 1 ≤ e) (within : e ≤ P.tau) where
-  length_ε : length (ε P key (extracted P x) e) ≡ P.m
+module _ (P : Params) (key : PublicKey) (σ : Signature) (e : ℕ) where
+  length_ε : length (ε P key σ e) ≡ P.m
   unfolding ε challenge expand_elements sample_elements
   length_ε = length-unpack P.m _
 
-  pub values_cut : (v : List ℕ) → length v ≡ P.n + P.m + P.m + P.m + P.m → v ≡ values_of P key (extracted P x) e
-      → Cut P.n P.m v (opening_of P x e).Δs (opening_of P x e).Δc (ε P key (extracted P x) e) key.t (opening_of P x e).α
-  unfolding values_of extracted
-  values_cut v sized is =
-      let a = length_Δs P x e from_one within in
-      let b = length_Δc P x e from_one within in
-      let c = length_ε in
-      let d = length_α P x e from_one within in
-      let l = simp length-append at (ap length is) in
-      let t : length key.t ≡ P.m = omega arith in
-      cut P.n P.m v (opening_of P x e).Δs (opening_of P x e).Δc (ε P key (extracted P x) e) key.t (opening_of P x e).α a b c t d is
+  ε-elements : Elements (ε P key σ e)
+  unfolding ε challenge expand_elements sample_elements
+  ε-elements = unpack-elements P.m _
 
--- the values as they are read
-module _ (P : Params) (pk x challenges : List ℕ) (e : ℕ) where
-  abbrev pub as_read : List ℕ
-  as_read = ((opening_of P x e).Δs ++ (opening_of P x e).Δc) ++ (challenge_in P.m challenges e ++ ((public_key_of P pk).t ++ (opening_of P x e).α))
-
+module _ (P : Params) (x : List ℕ) (e : ℕ) where
   all_elements : Elements (packed_vectors P x)
   unfolding packed_vectors
   all_elements = unpack-elements (vector_count P) (drop (packing_at P) x)
@@ -163,60 +151,51 @@ module _ (P : Params) (pk x challenges : List ℕ) (e : ℕ) where
       take-elements P.m (drop (P.tau * (P.n + P.m) + (e - 1) * P.m) (packed_vectors P x))
       (drop-elements (P.tau * (P.n + P.m) + (e - 1) * P.m) (packed_vectors P x) all_elements)
 
-  challenge-elements : Elements (challenge_in P.m challenges e)
-  unfolding challenge_in
-  challenge-elements = unpack-elements P.m (drop ((e - 1) * packed_length P.m) challenges)
+module _ (P : Params) (pk : List ℕ) where
+  length_t : length (public_key_of P pk).t ≡ P.m
+  unfolding public_key_of
+  length_t = length-unpack P.m (drop (S P) pk)
 
   t-elements : Elements (public_key_of P pk).t
   unfolding public_key_of
   t-elements = unpack-elements P.m (drop (S P) pk)
 
-  pub read_elements_small : (v : List ℕ) → v ≡ as_read → Elements v
-  read_elements_small v is =
-      subst Elements (sym is)
-      (append-elements ((opening_of P x e).Δs ++ (opening_of P x e).Δc) (challenge_in P.m challenges e ++ ((public_key_of P pk).t ++ (opening_of P x e).α))
-      (append-elements (opening_of P x e).Δs (opening_of P x e).Δc Δs-elements Δc-elements)
-      (append-elements (challenge_in P.m challenges e) ((public_key_of P pk).t ++ (opening_of P x e).α) challenge-elements
-      (append-elements (public_key_of P pk).t (opening_of P x e).α t-elements α-elements)))
-
-  pub values_are : (v : List ℕ) → v ≡ as_read → challenge_in P.m challenges e ≡ ε P (public_key_of P pk) (extracted P x) e
-      → v ≡ values_of P (public_key_of P pk) (extracted P x) e
+module _ (r : Repetition) (v : List ℕ) (is : v ≡ values_of r.claim.p (key_of r.claim) (signature_of r.claim) r.e) where
+  -- they are five vectors
+  pub values_cut : Cut r.claim.p.n r.claim.p.m v (opening_of r.claim.p r.claim.signature.now r.e).Δs (opening_of r.claim.p r.claim.signature.now r.e).Δc
+      (ε r.claim.p (key_of r.claim) (signature_of r.claim) r.e) (key_of r.claim).t (opening_of r.claim.p r.claim.signature.now r.e).α
   unfolding values_of extracted
-  values_are v is c = is ∙ ap (λ (y : List ℕ). ((opening_of P x e).Δs ++ (opening_of P x e).Δc) ++ (y ++ ((public_key_of P pk).t ++ (opening_of P x e).α))) c
+  values_cut =
+      cut r.claim.p.n r.claim.p.m v _ _ _ _ _
+      (length_Δs r.claim.p r.claim.signature.now r.e r.from_one r.within)
+      (length_Δc r.claim.p r.claim.signature.now r.e r.from_one r.within)
+      (length_ε r.claim.p (key_of r.claim) (signature_of r.claim) r.e)
+      (length_t r.claim.p r.claim.pk.now)
+      (length_α r.claim.p r.claim.signature.now r.e r.from_one r.within) is
 
--- ---- four parts laid one after another
+  pub length_values : length v ≡ r.claim.p.n + 4 * r.claim.p.m
+  unfolding values_of extracted
+  length_values =
+      let a = length_Δs r.claim.p r.claim.signature.now r.e r.from_one r.within in
+      let b = length_Δc r.claim.p r.claim.signature.now r.e r.from_one r.within in
+      let c = length_ε r.claim.p (key_of r.claim) (signature_of r.claim) r.e in
+      let t = length_t r.claim.p r.claim.pk.now in
+      let d = length_α r.claim.p r.claim.signature.now r.e r.from_one r.within in
+      let l = simp length-append at (ap length is) in
+      omega arith
 
--- after one part, two and three
-abbrev after₁ : List ℕ → List ℕ → ℕ → List ℕ
-after₁ v r a = r ++ drop (a - 0) (drop 0 v)
+  pub values-elements : Elements v
+  unfolding values_of extracted
+  values-elements =
+      subst Elements (sym is)
+      (append-elements _ _ (append-elements _ _ (Δs-elements r.claim.p r.claim.signature.now r.e) (Δc-elements r.claim.p r.claim.signature.now r.e))
+      (append-elements _ _ (ε-elements r.claim.p (key_of r.claim) (signature_of r.claim) r.e)
+      (append-elements _ _ (t-elements r.claim.p r.claim.pk.now) (α-elements r.claim.p r.claim.signature.now r.e))))
 
-abbrev after₂ : List ℕ → List ℕ → ℕ → ℕ → List ℕ
-after₂ v r a b = take a v ++ (r ++ drop (b - a) (drop a v))
-
-module _ (n m : ℕ) (v r₁ r₂ r₃ : List ℕ) (size : length v ≡ n + m + m + m + m) where
-  -- the last part has room
-  pub last-room : length r₁ ≡ length (take (n + m - 0) (drop 0 v))
-      → length r₂ ≡ length (take (n + m + m - (n + m)) (drop (n + m) (after₁ v r₁ (n + m))))
-      → length r₃ ≡ length (take (n + m + m + m - (n + m + m)) (drop (n + m + m) (after₂ (after₁ v r₁ (n + m)) r₂ (n + m) (n + m + m))))
-      → length (take (n + m + m + m + m - (n + m + m + m)) (drop (n + m + m + m) (after₂ (after₂ (after₁ v r₁ (n + m)) r₂ (n + m) (n + m + m)) r₃ (n + m + m) (n + m + m + m)))) ≡ m
-  last-room k₁ k₂ k₃ =
-      (four_sizes r₁ r₂ r₃ v _ _ _ (n + m) (n + m + m) (n + m + m + m) (n + m + m + m + m) (omega arith) (omega arith) (omega arith) size refl refl refl k₁ k₂ k₃).fourth_is
-      ∙ (let q : n + m + m + m + m - (n + m + m + m) ≡ m = omega arith in q)
-
-  four_laid : (r₄ : List ℕ) → length r₁ ≡ n + m → length r₂ ≡ m → length r₃ ≡ m → length r₄ ≡ m
-      → after₂ (after₂ (after₂ (after₁ v r₁ (n + m)) r₂ (n + m) (n + m + m)) r₃ (n + m + m) (n + m + m + m)) r₄ (n + m + m + m) (n + m + m + m + m) ≡ r₁ ++ (r₂ ++ (r₃ ++ r₄))
-  four_laid r₄ l₁ l₂ l₃ l₄ =
-      four_sections r₁ r₂ r₃ v _ _ _ (n + m) (n + m + m) (n + m + m + m) (n + m + m + m + m) (omega arith) (omega arith) (omega arith) size refl refl refl r₄ _ refl
-      l₁ (omega arith) (omega arith) (omega arith)
-
--- the values of a repetition
-module _ (P : Params) (pk x challenges : List ℕ) (e : ℕ) (from_one : 1 ≤ e) (within : e ≤ P.tau) (v r₁ r₂ r₃ r₄ : List ℕ) (size : length v ≡ P.n + P.m + P.m + P.m + P.m) where
-  pub values_laid : r₁ ≡ (opening_of P x e).Δs ++ (opening_of P x e).Δc → r₂ ≡ challenge_in P.m challenges e → r₃ ≡ (public_key_of P pk).t → r₄ ≡ (opening_of P x e).α
-      → after₂ (after₂ (after₂ (after₁ v r₁ (P.n + P.m)) r₂ (P.n + P.m) (P.n + P.m + P.m)) r₃ (P.n + P.m + P.m) (P.n + P.m + P.m + P.m)) r₄ (P.n + P.m + P.m + P.m) (P.n + P.m + P.m + P.m + P.m)
-      ≡ as_read P pk x challenges e
-  unfolding challenge_in public_key_of
-  values_laid e₁ e₂ e₃ e₄ =
-      let a = length_Δs P x e from_one within in
-      let b = length_Δc P x e from_one within in
-      four_laid P.n P.m v r₁ r₂ r₃ size r₄ (ap length e₁ ∙ simp length-append (omega arith)) (ap length e₂ ∙ length-unpack P.m _) (ap length e₃ ∙ length-unpack P.m _) (ap length e₄ ∙ length_α P x e from_one within)
-      ∙ ap₂ (λ (y z : List ℕ). y ++ z) e₁ (ap₂ (λ (y z : List ℕ). y ++ z) e₂ (ap₂ (λ (y z : List ℕ). y ++ z) e₃ e₄))
+-- the values as they are read
+pub values_read : (r : Repetition) (v c : List ℕ)
+    → v ≡ ((opening_of r.claim.p r.claim.signature.now r.e).Δs ++ (opening_of r.claim.p r.claim.signature.now r.e).Δc) ++ (c ++ ((key_of r.claim).t ++ (opening_of r.claim.p r.claim.signature.now r.e).α))
+    → c ≡ ε r.claim.p (key_of r.claim) (signature_of r.claim) r.e → v ≡ values_of r.claim.p (key_of r.claim) (signature_of r.claim) r.e
+unfolding values_of extracted
+values_read r v c is ec =
+    is ∙ ap (λ (y : List ℕ). ((opening_of r.claim.p r.claim.signature.now r.e).Δs ++ (opening_of r.claim.p r.claim.signature.now r.e).Δc) ++ (y ++ ((key_of r.claim).t ++ (opening_of r.claim.p r.claim.signature.now r.e).α))) ec

@@ -1,14 +1,11 @@
 -- Where the parts of keys, signature and work lie, in numbers: every part lies within what it is a part of, and no sum is too large.
 -- Assumes nothing.
-use mathlib.Core.Path.{◌≡◌, refl, sym, ap, ◌∙◌}
-use Prim.Native.Nat.{ℕ, ◌+◌, ◌-◌, ◌*◌, ◌/◌, ◌^◌, ◌≤◌}
-use native.Mathlib.Nat.{mul-le-mul}
+use mathlib.Core.Path.{◌≡◌, refl, sym, ap, ap₂, ◌∙◌}
+use Prim.Native.Nat.{ℕ, ◌+◌, ◌-◌, ◌*◌, ◌^◌, ◌≤◌}
 use native.Mathlib.Omega.{arith}
-use lib.ListN.{length, take, drop, length-take}
+use lib.ListN.{length, take, drop}
 use mathlib.Core.List.{List}
-use Rattle.memory.proofs.Xors.{part-sized, length_part}
-use Rattle.memory.proofs.Parts.{length-lent}
-use Rattle.field.specs.Packing.{packed_length}
+use Rattle.memory.proofs.Xors.{length_part}
 use Rattle.sets.specs.Sets.{S, N, public_key_length, signature_length}
 use Rattle.sets.specs.declared.Params.{Params}
 use Rattle.forms.specs.Room.{circuit_length}
@@ -16,6 +13,9 @@ use Rattle.biscuit.specs.Signature.{head_length, shown_length, shown_at, packing
 use Rattle.biscuit.specs.Room.{groups, leaves_at, room_at, roots_at, room_end, Fits}
 use Rattle.biscuit.proofs.Repeated.{among}
 use Rattle.biscuit.proofs.Room.{mapped}
+use Rattle.biscuit.proofs.Sizes.{all_shown_small}
+use Rattle.turns.specs.declared.claim.Repetition.{Repetition}
+use Rattle.turns.specs.Turns.{leaves_part}
 
 -- ---- work
 
@@ -61,47 +61,23 @@ module _ (P : Params) (f : Fits P) where
     unfolding signature_length shown_at head_length shown_length
     shown_fits = let r = among e P.tau (P.l * S P + 2 * S P) from_one within in omega arith
 
-  -- the vectors of one repetition
-  pub corrections_small : P.tau * (P.n + P.m) ≤ 17447
-  corrections_small =
-      let a = f.variables in
-      let b = f.equations in
-      let c = mul-le-mul {n₁ = P.tau} {m₁ = P.n + P.m} {n₂ = 73} {m₂ = 239} f.repetitions (omega arith) in
-      omega arith
-
-  pub alphas_small : P.tau * P.m ≤ 8833
-  alphas_small =
-      let c = mul-le-mul {n₁ = P.tau} {m₁ = P.m} {n₂ = 73} {m₂ = 121} f.repetitions f.equations in
-      omega arith
-
-  pub challenges_small : P.tau * packed_length P.m ≤ 4453
-  unfolding packed_length
-  challenges_small =
-      let b = f.equations in
-      let c = mul-le-mul {n₁ = P.tau} {m₁ = (P.m + 1) / 2} {n₂ = 73} {m₂ = 61} f.repetitions (omega arith) in
-      omega arith
+    -- in numbers
+    pub shown_bounded : (e - 1) * (P.l * S P + 2 * S P) + (P.l * S P + 2 * S P) ≤ 23360
+    shown_bounded = let r = among e P.tau (P.l * S P + 2 * S P) from_one within in let a = all_shown_small P f in omega arith
 
 -- ---- parts that are lent
 
-module _ (P : Params) (f : Fits P) (s : ℕ) (is : s ≡ S P) (x : List ℕ) where
-  pub salt-short : length (take (2 * s - 0) (drop 0 x)) ≤ 64
-  salt-short = let a = f.seed in let l = length-take (2 * s - 0) x in omega arith
+module _ (r : Repetition) where
+  pub commitment_fits : (at : ℕ) → at ≡ shown_at r.claim.p r.e → at + r.claim.p.l * S r.claim.p + 2 * S r.claim.p ≤ length r.claim.signature.now
+  commitment_fits at ea = let h = shown_fits r.claim.p r.claim.fits r.e r.from_one r.within in let l = r.claim.whole_signature in omega arith
 
-  module _ (size : length x ≡ signature_length P) (e : ℕ) (from_one : 1 ≤ e) (within : e ≤ P.tau) (at : ℕ) (ea : at ≡ shown_at P e) where
-    same-path : P.l * s ≡ P.l * S P
-    same-path = ap (λ (n : ℕ). P.l * n) is
+  pub path-length : length (take (r.claim.p.l * S r.claim.p) (drop (shown_at r.claim.p r.e) r.claim.signature.now)) ≡ r.claim.p.l * S r.claim.p
+  path-length =
+      let f = commitment_fits _ refl in length_part r.claim.signature.now (shown_at r.claim.p r.e) (r.claim.p.l * S r.claim.p) (omega arith)
 
-    pub path_fits : at + P.l * s ≤ length x
-    path_fits = let h = shown_fits P f e from_one within in let q = same-path in omega arith
+module _ (P : Params) (w : List ℕ) (enough : room_end P ≤ length w) where
+  pub length_leaves_part : length (leaves_part P w) ≡ room_at P - leaves_at P
+  length_leaves_part = let m = mapped P in length_part w (leaves_at P) (room_at P - leaves_at P) (omega arith)
 
-    pub commitment_fits : at + P.l * s + 2 * s ≤ length x
-    commitment_fits = let h = shown_fits P f e from_one within in let q = same-path in omega arith
-
-    pub path-length : length (take (at + P.l * s - at) (drop at x)) ≡ P.l * s
-    path-length = ap length (part-sized x at (P.l * s)) ∙ length_part x at (P.l * s) path_fits
-
-module _ (P : Params) (f : Fits P) (w : List ℕ) (enough : room_end P ≤ length w) (c d : ℕ) (ec : c ≡ leaves_at P) (ed : d ≡ room_at P) where
-  pub leaves-length : length (take (d - c) (drop c w)) ≡ 2 ^ P.l * S P
-  leaves-length =
-      let m = mapped P in
-      length-lent w c d (omega arith) (omega arith) ∙ (let q : d - c ≡ room_at P - leaves_at P = omega arith in q) ∙ leaves_size P f
+  pub leaves-length : Fits P → (c d : ℕ) → c ≡ leaves_at P → d ≡ room_at P → length (take (d - c) (drop c w)) ≡ 2 ^ P.l * S P
+  leaves-length f c d ec ed = ap₂ (λ (i j : ℕ). length (take (j - i) (drop i w))) ec ed ∙ length_leaves_part ∙ leaves_size P f

@@ -9,14 +9,23 @@ use Rattle.sets.specs.declared.Params.{Params}
 use Rattle.tree.specs.Tree.{filled}
 use Rattle.forms.specs.Room.{HoldsCircuit, challenge_in, hidden_in}
 use Rattle.parties.specs.Repetition.{first, second}
-use Rattle.biscuit.specs.Keys.{PublicKey}
-use Rattle.biscuit.specs.Signature.{Signature}
+use Rattle.biscuit.specs.Keys.{PublicKey, public_key_of}
+use Rattle.biscuit.specs.Signature.{Signature, extracted}
 use Rattle.biscuit.specs.Verify as verify
 use Rattle.biscuit.specs.Room.{leaves_at, room_at, roots_at, challenges_at, room_end}
 use Rattle.group.specs.declared.Rep.{Rep}
 use Rattle.answers.specs.Passes.{HoldsRoom}
 use Rattle.reps.specs.Reps.{rep_of}
 use Rattle.turns.specs.declared.Both.{Both}
+use Rattle.turns.specs.declared.claim.Claim.{Claim}
+
+-- ---- what a claim's bytes say
+
+abbrev pub key_of : Claim → PublicKey
+key_of claim = public_key_of claim.p claim.pk.now
+
+abbrev pub signature_of : Claim → Signature
+signature_of claim = extracted claim.p claim.signature.now
 
 -- ---- parts of work
 

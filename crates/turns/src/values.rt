@@ -1,67 +1,73 @@
 // The values that a repetition is worked from, read from the public key, the signature and work.
-ghost use Rattle.std.specs.Prelude.{◌≡◌, ◌++◌, ◌+◌, ◌≤◌, length};
-ghost use Rattle.sets.specs.Sets.{public_key_length, signature_length};
+ghost use Rattle.std.specs.Prelude.{◌≡◌, ◌++◌, ◌+◌, ◌*◌, ◌≤◌, length, drop};
 ghost use Rattle.forms.specs.Room.{challenge_in};
-ghost use Rattle.biscuit.specs.Keys.{public_key_of};
-ghost use Rattle.biscuit.specs.Signature.{opening_of};
-ghost use Rattle.biscuit.specs.Room.{Fits, room_end};
-ghost use Rattle.turns.specs.Turns.{challenges_part};
+ghost use Rattle.biscuit.specs.Signature.{opening_of, packing_at};
+ghost use Rattle.biscuit.specs.Room.{room_end};
+ghost use Rattle.turns.specs.Turns.{key_of, challenges_part};
 
-use sets::Params;
+use crate::claim::{Claim, Repetition};
 
-// Δs, Δc, the challenge, t and the hidden party's α of repetition e, an element to a byte.
-pub fn read_values(p: Params, e: usize, pk: &[u8], signature: &[u8], work: &[u8], values: &mut [u8])
-    requires { (Fits p) × (1 ≤ e) × (e ≤ p.tau) × (length pk.now ≡ public_key_length p) × (length signature.now ≡ signature_length p) × (length values.old ≡ p.n + p.m + p.m + p.m + p.m) × (room_end p ≤ length work.now) }
-    ensures { values.new ≡ ((opening_of p signature.now e).Δs ++ (opening_of p signature.now e).Δc) ++ (challenge_in p.m (challenges_part p work.now) e ++ ((public_key_of p pk.now).t ++ (opening_of p signature.now e).α)) }
+// Δs, Δc, the challenge, t and the hidden party's α, an element to a byte.
+pub fn read_values(repetition: Repetition<'_>, work: &[u8], values: &mut [u8])
+    requires { (length values.old ≡ repetition.claim.p.n + 4 * repetition.claim.p.m) × (room_end repetition.claim.p ≤ length work.now) }
+    ensures { let claim = repetition.entry.claim in let o = opening_of claim.p claim.signature.now repetition.entry.e in values.new ≡ (o.Δs ++ o.Δc) ++ (challenge_in claim.p.m (challenges_part claim.p work.now) repetition.entry.e ++ ((key_of claim).t ++ o.α)) }
 {
-    let a = p.n + p.m;
-    let b = a + p.m;
-    let c = b + p.m;
-    let d = c + p.m;
-    read_corrections(p, e, signature, &mut values[0..a]);
-    read_challenge(p, e, work, &mut values[a..b]);
-    read_target(p, pk, &mut values[b..c]);
-    read_alpha(p, e, signature, &mut values[c..d]);
+    let p = repetition.claim.p;
+    let (corrections, rest) = values.split_at_mut(p.n + p.m);
+    let (challenge, rest) = rest.split_at_mut(p.m);
+    let (target, alpha) = rest.split_at_mut(p.m);
+    read_corrections(repetition, corrections);
+    read_challenge(repetition, work, challenge);
+    read_target(repetition.claim, target);
+    read_alpha(repetition, alpha);
 }
 
-// Δs and Δc of repetition e.
-fn read_corrections(p: Params, e: usize, signature: &[u8], out: &mut [u8])
-    requires { (Fits p) × (1 ≤ e) × (e ≤ p.tau) × (length signature.now ≡ signature_length p) × (length out.old ≡ p.n + p.m) }
-    ensures { out.new ≡ (opening_of p signature.now e).Δs ++ (opening_of p signature.now e).Δc }
+// Δs and Δc.
+fn read_corrections(repetition: Repetition<'_>, out: &mut [u8])
+    requires { length out.old ≡ repetition.claim.p.n + repetition.claim.p.m }
+    ensures { let o = opening_of repetition.entry.claim.p repetition.entry.claim.signature.now repetition.entry.e in out.new ≡ o.Δs ++ o.Δc }
 {
-    let a = biscuit::packing_at(p);
-    let b = signature.len();
-    vectors::read_elements(&signature[a..b], (e - 1) * (p.n + p.m), out);
+    let p = repetition.claim.p;
+    let at = (repetition.e - 1) * (p.n + p.m);
+    vectors::read_elements(packing(repetition.claim), at, out);
 }
 
-// The challenge of repetition e.
-fn read_challenge(p: Params, e: usize, work: &[u8], out: &mut [u8])
-    requires { (Fits p) × (1 ≤ e) × (e ≤ p.tau) × (room_end p ≤ length work.now) × (length out.old ≡ p.m) }
-    ensures { out.new ≡ challenge_in p.m (challenges_part p work.now) e }
+// The challenge.
+#[tactic(auto, using(biscuit::proofs::Room::mapped))]
+fn read_challenge(repetition: Repetition<'_>, work: &[u8], out: &mut [u8])
+    requires { (room_end repetition.claim.p ≤ length work.now) × (length out.old ≡ repetition.claim.p.m) }
+    ensures { let p = repetition.entry.claim.p in out.new ≡ challenge_in p.m (challenges_part p work.now) repetition.entry.e }
 {
+    let p = repetition.claim.p;
     let layout = biscuit::layout_of(p);
-    let a = layout.challenges;
-    let b = layout.end;
-    vectors::read_elements(&work[a..b], (e - 1) * ((p.m + 1) / 2) * 2, out);
+    let challenges = &work[layout.challenges..layout.end];
+    let e = repetition.e;
+    vectors::read_elements(challenges, (e - 1) * ((p.m + 1) / 2) * 2, out);
 }
 
 // t of the public key.
-fn read_target(p: Params, pk: &[u8], out: &mut [u8])
-    requires { (Fits p) × (length pk.now ≡ public_key_length p) × (length out.old ≡ p.m) }
-    ensures { out.new ≡ (public_key_of p pk.now).t }
+#[tactic(auto, using(crate::proofs::Sizes::seed_fits), unfolding(sets::specs::Sets::S))]
+fn read_target(claim: Claim<'_>, out: &mut [u8])
+    requires { length out.old ≡ claim.p.m }
+    ensures { out.new ≡ (key_of claim.entry).t }
 {
-    let a = p.bits / 8;
-    let b = pk.len();
-    vectors::read_elements(&pk[a..b], 0, out);
+    vectors::read_elements(&claim.pk[claim.p.bits / 8..], 0, out);
 }
 
-// The hidden party's α of repetition e.
-fn read_alpha(p: Params, e: usize, signature: &[u8], out: &mut [u8])
-    requires { (Fits p) × (1 ≤ e) × (e ≤ p.tau) × (length signature.now ≡ signature_length p) × (length out.old ≡ p.m) }
-    ensures { out.new ≡ (opening_of p signature.now e).α }
+// The hidden party's α.
+fn read_alpha(repetition: Repetition<'_>, out: &mut [u8])
+    requires { length out.old ≡ repetition.claim.p.m }
+    ensures { out.new ≡ (opening_of repetition.entry.claim.p repetition.entry.claim.signature.now repetition.entry.e).α }
 {
-    let a = biscuit::packing_at(p);
-    let b = signature.len();
-    let at = p.tau * (p.n + p.m) + (e - 1) * p.m;
-    vectors::read_elements(&signature[a..b], at, out);
+    let p = repetition.claim.p;
+    let at = p.tau * (p.n + p.m) + (repetition.e - 1) * p.m;
+    vectors::read_elements(packing(repetition.claim), at, out);
+}
+
+// The vectors that a signature packs.
+#[tactic(auto, using(crate::proofs::Sizes::packing_fits))]
+fn packing<'a>(claim: Claim<'a>) -> &'a [u8]
+    ensures { result.now ≡ drop (packing_at claim.entry.p) claim.entry.signature.now }
+{
+    &claim.signature[biscuit::packing_at(claim.p)..]
 }

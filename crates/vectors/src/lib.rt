@@ -43,7 +43,7 @@ fn read_whole(bytes: &[u8], at: usize, i: usize, out: &mut [u8]) -> usize
     if bytes.len() <= a {
         return i;
     }
-    let w = memory::lesser((out.len() - i) / 2, bytes.len() - a);
+    let w = ((out.len() - i) / 2).min(bytes.len() - a);
     let e = a + w;
     let f = i + w * 2;
     halves(&bytes[a..e], &mut out[i..f]);
@@ -55,13 +55,10 @@ fn halves(bytes: &[u8], out: &mut [u8])
     requires { length out.old ≡ length bytes.now * 2 }
     ensures { out.new ≡ unpack (length out.old) bytes.now }
 {
-    let mut k = 0;
-    while k < bytes.len() {
-        let b = bytes[k];
+    for (k, b) in bytes.iter().enumerate() {
         let j = k * 2;
         out[j] = b % 16;
         out[j + 1] = b / 16;
-        k += 1;
     }
 }
 
@@ -70,10 +67,8 @@ fn read_rest(bytes: &[u8], at: usize, f: usize, out: &mut [u8])
     requires { (at ≤ 65536) × (f ≤ length out.old) × (length out.old ≤ 65536) }
     ensures { ReadTo bytes.now at f out.old → ReadTo bytes.now at (length out.old) out.new }
 {
-    let mut i = f;
-    while i < out.len() {
+    for i in f..out.len() {
         out[i] = field::element(bytes, at + i);
-        i += 1;
     }
 }
 
@@ -82,10 +77,8 @@ pub fn write_elements(elements: &[u8], at: usize, bytes: &mut [u8])
     requires { (at + length elements.now ≤ 2 * length bytes.old) × (length bytes.old ≤ 65536) }
     ensures { bytes.new ≡ elements_put elements.now at bytes.old }
 {
-    let mut i = 0;
-    while i < elements.len() {
-        put_element(elements[i], at + i, bytes);
-        i += 1;
+    for (i, x) in elements.iter().enumerate() {
+        put_element(*x, at + i, bytes);
     }
 }
 
@@ -95,9 +88,9 @@ pub fn put_element(x: u8, j: usize, bytes: &mut [u8])
     ensures { HalfPut x j bytes.old bytes.new }
 {
     let b = bytes[j / 2];
-    if j % 2 == 0 {
-        bytes[j / 2] = b / 16 * 16 + x % 16;
-        return;
-    }
-    bytes[j / 2] = b % 16 + x % 16 * 16;
+    bytes[j / 2] = if j % 2 == 0 {
+        b / 16 * 16 + x % 16
+    } else {
+        b % 16 + x % 16 * 16
+    };
 }

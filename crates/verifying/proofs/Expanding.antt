@@ -4,8 +4,8 @@ use mathlib.Core.Path.{◌≡◌, sym, ap, ap₂, ◌∙◌, subst}
 use mathlib.Core.List.{List, ◌++◌}
 use Prim.Native.Nat.{ℕ, ◌+◌, ◌-◌, ◌*◌, ◌≤◌}
 use native.Mathlib.Omega.{arith}
-use lib.ListN.{length, take, drop}
-use lib.Seq.{take_at}
+use lib.ListN.{length, take, drop, length-append, length-drop}
+use lib.Seq.{take_at, length-take-le}
 use Rattle.memory.specs.Lists.{put}
 use Rattle.memory.proofs.Parts.{lent-put, mid_put, length-lent}
 use Rattle.field.specs.Packing.{packed_length}
@@ -19,7 +19,7 @@ use Rattle.biscuit.specs.Keys.{PublicKey, circuit, public_key_of}
 use Rattle.biscuit.specs.Signature.{Signature, extracted}
 use Rattle.biscuit.specs.Verify.{f, ε, hidden}
 use Rattle.biscuit.specs.Room.{leaves_at, roots_at, challenges_at, room_end, Fits}
-use Rattle.biscuit.proofs.Parts.{length-first, length-first_back, take-before-put}
+use Rattle.biscuit.proofs.Parts.{take-before-put}
 use Rattle.biscuit.proofs.Repeated.{among}
 use Rattle.biscuit.proofs.Room.{mapped, behind-roots}
 use Rattle.turns.specs.Turns.{circuit_part, challenges_part, Expanded}
@@ -32,43 +32,43 @@ challenges_size P = let m = mapped P in omega arith
 
 module _ (P : Params) (w : List ℕ) (enough : room_end P ≤ length w) (end from to : ℕ) (ee : end ≡ leaves_at P) (ef : from ≡ challenges_at P) (et : to ≡ room_end P) where
   -- the circuit, at the start
-  pub first-length : length (take (end - 0) (drop 0 w)) ≡ leaves_at P
-  first-length = length-first w end (let m = mapped P in omega arith) ∙ ee
+  pub first-length : length (take end w) ≡ leaves_at P
+  first-length = length-take-le end w (let m = mapped P in omega arith) ∙ ee
 
-  module _ (last : List ℕ) (kept : length last ≡ length (take (end - 0) (drop 0 w))) where
-    pub first_back : length (last ++ drop (end - 0) (drop 0 w)) ≡ length w
-    first_back = length-first_back w last end (let m = mapped P in omega arith) kept
+  module _ (last : List ℕ) (kept : length last ≡ length (take end w)) where
+    pub first_back : length (last ++ drop end w) ≡ length w
+    first_back = let l = first-length in let m = mapped P in omega (arith, length-append last (drop end w), length-drop end w)
 
     -- the challenges, at the end
-    pub second-length : length (take (to - from) (drop from (last ++ drop (end - 0) (drop 0 w)))) ≡ room_end P - challenges_at P
+    pub second-length : length (take (to - from) (drop from (last ++ drop end w))) ≡ room_end P - challenges_at P
     second-length =
         let m = mapped P in
         let b = first_back in
-        length-lent (last ++ drop (end - 0) (drop 0 w)) from to (omega arith) (omega arith)
+        length-lent (last ++ drop end w) from to (omega arith) (omega arith)
         ∙ (let q : to - from ≡ room_end P - challenges_at P = omega arith in q)
 
     module _ (more w' : List ℕ) (size : length more ≡ room_end P - challenges_at P)
-        (is : w' ≡ take from (last ++ drop (end - 0) (drop 0 w)) ++ (more ++ drop (to - from) (drop from (last ++ drop (end - 0) (drop 0 w))))) where
-      as_put : w' ≡ put (last ++ drop (end - 0) (drop 0 w)) (challenges_at P) more
+        (is : w' ≡ take from (last ++ drop end w) ++ (more ++ drop (to - from) (drop from (last ++ drop end w)))) where
+      as_put : w' ≡ put (last ++ drop end w) (challenges_at P) more
       as_put =
-          is ∙ lent-put (last ++ drop (end - 0) (drop 0 w)) from to more (size ∙ (let q : room_end P - challenges_at P ≡ to - from = omega arith in q))
-          ∙ ap (λ (n : ℕ). put (last ++ drop (end - 0) (drop 0 w)) n more) ef
+          is ∙ lent-put (last ++ drop end w) from to more (size ∙ (let q : room_end P - challenges_at P ≡ to - from = omega arith in q))
+          ∙ ap (λ (n : ℕ). put (last ++ drop end w) n more) ef
 
-      fits : challenges_at P + length more ≤ length (last ++ drop (end - 0) (drop 0 w))
+      fits : challenges_at P + length more ≤ length (last ++ drop end w)
       fits = let b = first_back in let m = mapped P in omega arith
 
       pub circuit_there : circuit_part P w' ≡ last
       circuit_there =
           let m = mapped P in
           ap (take (leaves_at P)) as_put
-          ∙ take-before-put (last ++ drop (end - 0) (drop 0 w)) (challenges_at P) more (leaves_at P) fits (omega arith)
-          ∙ take_at last (drop (end - 0) (drop 0 w)) (leaves_at P) (kept ∙ first-length)
+          ∙ take-before-put (last ++ drop end w) (challenges_at P) more (leaves_at P) fits (omega arith)
+          ∙ take_at last (drop end w) (leaves_at P) (kept ∙ first-length)
 
       pub challenges_there : challenges_part P w' ≡ more
       challenges_there =
           ap (λ (l : List ℕ). take (room_end P - challenges_at P) (drop (challenges_at P) l)) as_put
-          ∙ ap (λ (n : ℕ). take n (drop (challenges_at P) (put (last ++ drop (end - 0) (drop 0 w)) (challenges_at P) more))) (sym size)
-          ∙ mid_put (last ++ drop (end - 0) (drop 0 w)) (challenges_at P) more fits
+          ∙ ap (λ (n : ℕ). take n (drop (challenges_at P) (put (last ++ drop end w) (challenges_at P) more))) (sym size)
+          ∙ mid_put (last ++ drop end w) (challenges_at P) more fits
 
 -- ---- what was expanded stays
 
@@ -83,13 +83,12 @@ still_expanded P key σ parties w w' x c h = record {
 -- ---- what the tapes hold
 
 module _ (P : Params) (fit : Fits P) (pk x : List ℕ) (s : ℕ) (is : s ≡ S P) where
-  pub holds_circuit : (w last : List ℕ) (k : ℕ) → circuit_part P w ≡ last → last ≡ shake256 (take (s - 0) (drop 0 pk)) k → k ≡ leaves_at P
+  pub holds_circuit : (w last : List ℕ) (k : ℕ) → circuit_part P w ≡ last → last ≡ shake256 (take s pk) k → k ≡ leaves_at P
       → HoldsCircuit P.n P.m (f P (public_key_of P pk)) (circuit_part P w)
   unfolding f circuit public_key_of
   holds_circuit w last k ew el ek =
-      let q : s - 0 ≡ S P = omega arith in
       subst (HoldsCircuit P.n P.m (f P (public_key_of P pk)))
-      (sym (ew ∙ el ∙ ap₂ (λ (n j : ℕ). shake256 (take n pk) j) q (ek ∙ leaves_is P)))
+      (sym (ew ∙ el ∙ ap₂ (λ (n j : ℕ). shake256 (take n pk) j) is (ek ∙ leaves_is P)))
       (expanded_circuit (take (S P) pk) P.n P.m _ (omega arith))
 
   pub holds_challenge : (w more : List ℕ) (k : ℕ) → challenges_part P w ≡ more → more ≡ shake256 (take (2 * s + 2 * s - 2 * s) (drop (2 * s) x)) k → k ≡ room_end P - challenges_at P

@@ -41,20 +41,20 @@ module _ (P : Params) (key : PublicKey) where
   -- ---- before the first repetition
 
   module _ (x message : List ℕ) (s : ℕ) (is : s ≡ S P) where
-    pub first_begun : (r t : Sponge) → r ≡ absorbed fresh (first_hash ∷ take (2 * s - 0) (drop 0 x)) → t ≡ absorbed r message
+    pub first_begun : (r t : Sponge) → r ≡ absorbed fresh (first_hash ∷ take (2 * s) x) → t ≡ absorbed r message
         → t ≡ absorbed fresh (first_fields (extracted P x).salt message (repeated 0 (first_of P key (extracted P x))))
     unfolding extracted first_fields repeated
     first_begun r t er et =
-        et ∙ ap (λ (u : Sponge). absorbed u message) er ∙ absorbed-append fresh (first_hash ∷ take (2 * s - 0) (drop 0 x)) message
-        ∙ ap₂ (λ (n : ℕ) (l : List ℕ). absorbed fresh (first_hash ∷ (take n x ++ l))) (let q : 2 * s - 0 ≡ 2 * S P = omega arith in q) (sym (append-nil message))
+        et ∙ ap (λ (u : Sponge). absorbed u message) er ∙ absorbed-append fresh (first_hash ∷ take (2 * s) x) message
+        ∙ ap₂ (λ (n : ℕ) (l : List ℕ). absorbed fresh (first_hash ∷ (take n x ++ l))) (ap (λ (k : ℕ). 2 * k) is) (sym (append-nil message))
 
-    pub second_begun : (r : Sponge) → r ≡ absorbed fresh (second_hash ∷ (take (2 * s - 0) (drop 0 x) ++ take (2 * s + 2 * s - 2 * s) (drop (2 * s) x)))
+    pub second_begun : (r : Sponge) → r ≡ absorbed fresh (second_hash ∷ (take (2 * s) x ++ take (2 * s + 2 * s - 2 * s) (drop (2 * s) x)))
         → r ≡ absorbed fresh (second_fields (extracted P x).salt (extracted P x).h₁ (repeated 0 (second_of P key (extracted P x))))
     unfolding extracted second_fields repeated
     second_begun r er =
         er
         ∙ ap₂ (λ (l h : List ℕ). absorbed fresh (second_hash ∷ (l ++ h)))
-        (ap (λ (n : ℕ). take n x) (let q : 2 * s - 0 ≡ 2 * S P = omega arith in q))
+        (ap (λ (n : ℕ). take n x) (ap (λ (k : ℕ). 2 * k) is))
         (ap₂ (λ (n k : ℕ). take n (drop k x)) (let q : 2 * s + 2 * s - 2 * s ≡ 2 * S P = omega arith in q) (ap (λ (k : ℕ). 2 * k) is) ∙ sym (append-nil _))
 
   module _ (σ : Signature) (message : List ℕ) where

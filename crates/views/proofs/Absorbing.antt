@@ -12,7 +12,7 @@ use lib.Seq.{take_all, length-take-le}
 use Rattle.memory.specs.Lists.{over}
 use Rattle.memory.specs.Sections.{pieces}
 use Rattle.memory.proofs.Sections.{length-pieces, get_or-pieces}
-use Rattle.memory.proofs.Xors.{take-over, lent_start, part-sized, length_part}
+use Rattle.memory.proofs.Xors.{take-over, lent_start}
 use Rattle.field.specs.Packing.{pack, packed_length}
 use Rattle.field.proofs.Packing.{length-pack}
 use Rattle.sponge.specs.declared.Sponge.{Sponge}
@@ -24,9 +24,12 @@ use Rattle.sets.specs.declared.Params.{Params}
 use Rattle.hashes.specs.Hashes.{commit, commit_fields}
 use Rattle.parties.specs.Parties.{parties}
 use Rattle.parties.specs.Repetition.{com_of, coms, first, given_at, left_out, all_coms}
-use Rattle.parties.proofs.Numbered.{length-parties, numbered-same}
+use Rattle.parties.proofs.Numbered.{length-parties}
 use Rattle.parties.proofs.Growing.{take-suc-parties, flatten-snoc}
 use Rattle.parties.proofs.OneRoutine.{coms_by_party}
+use Rattle.std.specs.Prelude.{Option, Some, None}
+use Rattle.views.specs.declared.leaves.Given.{Given}
+use Rattle.views.specs.Views.{given_in}
 
 module _ (g : ℕ → List ℕ → List ℕ) (w n : ℕ) (leaves : List ℕ) where
   -- the parties up to i, and one more
@@ -59,11 +62,6 @@ module _ (g : ℕ → List ℕ → List ℕ) (w n : ℕ) (leaves : List ℕ) whe
       let f = length-parties g (pieces w n leaves) in
       er ∙ ap (λ (l : List (List ℕ)). absorbed s (flatten l)) (take_all i (parties g (pieces w n leaves)) (omega arith))
 
--- with hidden 0 nobody is left out
-pub given_nowhere : (d : List ℕ) (g : ℕ → List ℕ → List ℕ) (l : List (List ℕ)) → parties (given_at d 0 g) l ≡ parties g l
-unfolding parties
-given_nowhere d g l = numbered-same (given_at d 0 g) g 1 l (λ i x h. rw (ne_eqb i 0 (λ e. omega arith)) refl)
-
 -- a commitment of size bytes by the parameters
 pub commit-com_of : (P : Params) (salt : List ℕ) (e : ℕ) → com_of P salt e ≡ commit (S P) salt e
 unfolding com_of
@@ -78,16 +76,16 @@ absorbed_packed v room out n s r en h eo er =
     (ap₂ (λ (k : ℕ) (x : List ℕ). take k x) (sub-zero n) eo ∙ take-over (pack v) room n (length-pack v ∙ sym en) h)
 
 -- the first hash of one repetition of signing
-pub absorbed-first : (P : Params) (salt : List ℕ) (e : ℕ) (seeds : List (List ℕ)) (d Δs Δc : List ℕ) (s r t : Sponge)
-    → r ≡ absorbed s (flatten (parties (given_at d 0 (commit (S P) salt e)) seeds)) → t ≡ absorbed r (pack Δs ++ pack Δc)
+pub absorbed-first : (P : Params) (salt : List ℕ) (e : ℕ) (seeds : List (List ℕ)) (Δs Δc : List ℕ) (s r t : Sponge)
+    → r ≡ absorbed s (flatten (parties (given_in None (commit (S P) salt e)) seeds)) → t ≡ absorbed r (pack Δs ++ pack Δc)
     → t ≡ absorbed s (first (coms P salt e seeds) Δs Δc)
-unfolding first coms
-absorbed-first P salt e seeds d Δs Δc s r t er et =
+unfolding first coms given_in
+absorbed-first P salt e seeds Δs Δc s r t er et =
     et
     ∙ ap (λ (x : Sponge). absorbed x (pack Δs ++ pack Δc)) er
-    ∙ absorbed-append s (flatten (parties (given_at d 0 (commit (S P) salt e)) seeds)) (pack Δs ++ pack Δc)
+    ∙ absorbed-append s (flatten (parties (commit (S P) salt e) seeds)) (pack Δs ++ pack Δc)
     ∙ ap (λ (l : List (List ℕ)). absorbed s (flatten l ++ (pack Δs ++ pack Δc)))
-    (given_nowhere d (commit (S P) salt e) seeds ∙ ap (λ (g : ℕ → List ℕ → List ℕ). parties g seeds) (sym (commit-com_of P salt e)))
+    (ap (λ (g : ℕ → List ℕ → List ℕ). parties g seeds) (sym (commit-com_of P salt e)))
 
 -- the given entry at party h, and the computed one at every other
 pub given_there : (d : List ℕ) (h i : ℕ) (g : ℕ → List ℕ → List ℕ) (x : List ℕ) → i ≡ h → given_at d h g i x ≡ d
@@ -96,12 +94,18 @@ given_there d h i g x e = rw (eq-eqb i h e) refl
 pub given_elsewhere : (d : List ℕ) (h i : ℕ) (g : ℕ → List ℕ → List ℕ) (x : List ℕ) → (i ≡ h → ⊥) → given_at d h g i x ≡ g i x
 given_elsewhere d h i g x e = rw (ne_eqb i h e) refl
 
--- the commitment to a leaf among the leaves
-pub commit-part : (salt : List ℕ) (e i at size : ℕ) (leaves : List ℕ) → at + size ≤ length leaves
-    → commit (length (take (at + size - at) (drop at leaves))) salt e i (take (at + size - at) (drop at leaves)) ≡ commit size salt e i (take size (drop at leaves))
-commit-part salt e i at size leaves h =
-    ap (λ (x : List ℕ). commit (length x) salt e i x) (part-sized leaves at size)
-    ∙ ap (λ (w : ℕ). commit w salt e i (take size (drop at leaves))) (length_part leaves at size h)
+-- the same of a commitment that may be given
+pub given_is : (o : Option Given) (known : Given) (i : ℕ) (g : ℕ → List ℕ → List ℕ) (x : List ℕ) → o ≡ Some known → known.party ≡ i → given_in o g i x ≡ known.commitment.now
+unfolding given_in
+given_is o known i g x e h = ap (λ (q : Option Given). given_in q g i x) e ∙ given_there known.commitment.now known.party i g x (sym h)
+
+pub given_another : (o : Option Given) (known : Given) (i : ℕ) (g : ℕ → List ℕ → List ℕ) (x : List ℕ) → o ≡ Some known → (known.party ≡ i → ⊥) → given_in o g i x ≡ g i x
+unfolding given_in
+given_another o known i g x e h = ap (λ (q : Option Given). given_in q g i x) e ∙ given_elsewhere known.commitment.now known.party i g x (λ t. h (sym t))
+
+pub given_none : (o : Option Given) (i : ℕ) (g : ℕ → List ℕ → List ℕ) (x : List ℕ) → o ≡ None → given_in o g i x ≡ g i x
+unfolding given_in
+given_none o i g x e = ap (λ (q : Option Given). given_in q g i x) e
 
 -- a commitment that was written to the start of a room is absorbed
 pub absorbed-commitment : (salt seed : List ℕ) (e i n : ℕ) (room last : List ℕ) (s r : Sponge) → n ≡ 2 * length seed → n ≤ length room

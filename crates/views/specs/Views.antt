@@ -1,7 +1,7 @@
 -- The sum of all parties' tapes, byte by byte, and where secret, mask and helper lie in it: what the contracts of this crate cite between the seeds of a
 -- repetition and its corrections (algorithm 12 of the submission, lines 9 to 15). The laws of proofs/Sums.antt tie it to the parties' shares.
 -- Assumes nothing.
-use Rattle.std.specs.Prelude.{◌≡◌, List, ℕ, ◌+◌, drop, replicate}
+use Rattle.std.specs.Prelude.{◌≡◌, Option, Some, None, List, ℕ, ◌+◌, drop, replicate}
 use Rattle.field.specs.Packing.{packed_length, unpack}
 use Rattle.field.specs.Vectors.{◌⊕◌, ◌⊙◌, total}
 use Rattle.hashes.specs.Hashes.{expand_tape}
@@ -9,7 +9,8 @@ use Rattle.sponge.specs.Steps.{absorbed}
 use Rattle.sponge.specs.declared.Sponge.{Sponge}
 use Rattle.sets.specs.declared.Params.{Params}
 use Rattle.parties.specs.Parties.{parties}
-use Rattle.parties.specs.Repetition.{coms, delta_s, delta_c, first}
+use Rattle.parties.specs.Repetition.{coms, delta_s, delta_c, first, given_at}
+use Rattle.views.specs.declared.leaves.Given.{Given}
 
 -- algorithm 12, line 9: the first bytes of every party's tape, by the seeds
 unfoldable pub tapes : List ℕ → ℕ → ℕ → List (List ℕ) → List (List ℕ)
@@ -32,3 +33,8 @@ pub record FirstPhase (P : Params) (salt : List ℕ) (e : ℕ) (s y : List ℕ) 
   pub hashed : after ≡ absorbed before (first (coms P salt e seeds) (delta_s P salt e s seeds) (delta_c P salt e y seeds))
   pub secret : ds ≡ delta_s P salt e s seeds
   pub helper : dc ≡ delta_c P salt e y seeds
+
+-- algorithm 13, line 12: the party's own entry, and at the party whose commitment is given that one
+unfoldable pub given_in : Option Given → (ℕ → List ℕ → List ℕ) → ℕ → List ℕ → List ℕ
+given_in (Some g) f = given_at g.commitment.now g.party f
+given_in None f = f

@@ -1,37 +1,17 @@
 -- `answers::answers` meets its contract. The first pass absorbs every α and fills the room, and the rest absorbs every v and changes no byte of work.
 -- Assumes nothing.
-use mathlib.Core.Path.{refl, sym, ◌∙◌}
+use mathlib.Core.Path.{refl, sym}
 use Rattle.answers.specs.Passes.{circuit_of, leaves_of}
 use Rattle.answers.proofs.Values.{sums_passed, vs_of_lem, all_answers}
-use Rattle.answers.proofs.Turning.{zeros_sized, zeros_part, lent_same, lent-sized, lent_fits, folded_same}
-use Rattle.answers.proofs.Work.{room-sized, room-held}
+use Rattle.answers.proofs.Turning.{zeros_sized, zeros_part, lent_same, folded_same}
+use Rattle.answers.proofs.Work.{room-held}
 use Rattle.answers.proofs.answers.Goals as goal
 
 pub first_pass-first-requires : goal.first_pass-first-requires
 first_pass-first-requires c =
     let z = c.requires.0.equations in
     let m = c.args.rep.m in
-    (c.requires.0, c.requires.1, c.requires.2, c.requires.3, c.requires.4, zeros_sized 121 _ z, zeros_sized 121 _ z, zeros_sized 121 _ z, zeros_part 121 m, zeros_part 121 m, zeros_part 121 m, c.requires.5)
-
-pub slice_bounds-finish-end : goal.slice_bounds-finish-end
-slice_bounds-finish-end c =
-    let f = c.first_pass-first in
-    lent_fits 121 c.args.rep.m f.new.sa c.requires.0.equations f.auto.sa
-
-pub slice_bounds-sy-end-2 : goal.slice_bounds-sy-end-2
-slice_bounds-sy-end-2 c =
-    let f = c.first_pass-first in
-    lent_fits 121 c.args.rep.m f.new.sy c.requires.0.equations f.auto.sy
-
-pub slice_bounds-finish-end-2 : goal.slice_bounds-finish-end-2
-slice_bounds-finish-end-2 c =
-    let f = c.first_pass-first in
-    lent_fits 121 c.args.rep.m f.new.sw c.requires.0.equations f.auto.sw
-
-pub finish-requires : goal.finish-requires
-finish-requires c =
-    let f = c.first_pass-first in
-    (c.requires.0, c.requires.1, lent-sized 121 c.args.rep.m f.new.sa c.requires.0.equations f.auto.sa, lent-sized 121 c.args.rep.m f.new.sy c.requires.0.equations f.auto.sy, lent-sized 121 c.args.rep.m f.new.sw c.requires.0.equations f.auto.sw, room-sized c.args.rep f.new.work _ _ c.room_at-a.ensures (sym f.auto.work) (f.auto.work ∙ c.requires.5))
+    (c.requires.1, zeros_sized 121 _ z, zeros_sized 121 _ z, zeros_sized 121 _ z, zeros_part 121 m, zeros_part 121 m, zeros_part 121 m, c.requires.5)
 
 pub returns : goal.returns
 returns c =

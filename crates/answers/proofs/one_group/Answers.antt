@@ -2,43 +2,19 @@
 -- Assumes nothing.
 use mathlib.Core.Path.{refl, sym, subst, ◌∙◌}
 use mathlib.Core.List.{List}
-use native.Mathlib.Omega.{arith}
 use Prim.Native.Nat.{ℕ}
 use Rattle.field.specs.Packing.{Elements}
 use Rattle.marks.specs.Marks.{Marked}
 use Rattle.marks.proofs.Marks.{mark_flags}
-use Rattle.answers.proofs.Turning.{zeros_sized, lent_same, lent-sized, lent_fits, folded_same, folded_elements}
+use Rattle.answers.proofs.Turning.{zeros_sized, lent_same, lent-sized, folded_same, folded_elements}
 use Rattle.answers.proofs.Values.{all_answers}
 use Rattle.answers.proofs.OneGroup.{some_group, alphas_packed, vs_packed}
 use Rattle.answers.proofs.one_group.Goals as goal
-
-pub absorb_group-first-requires : goal.absorb_group-first-requires
-absorb_group-first-requires c = let e = c.requires.2 in let o = c.requires.0.some in let b = c.requires.0.equations in (omega arith, omega arith)
-
-pub slice_bounds-alpha-end : goal.slice_bounds-alpha-end
-slice_bounds-alpha-end c = c.requires.0.equations
-
-pub slice_bounds-given-end : goal.slice_bounds-given-end
-slice_bounds-given-end c = c.requires.0.equations
-
-pub folds-requires : goal.folds-requires
-folds-requires c =
-    let z = c.requires.0.equations in
-    let e = sym c.requires.2 in
-    (c.requires.3 ∙ e, c.requires.4 ∙ e, zeros_sized 121 _ z ∙ e, zeros_sized 121 _ z ∙ e)
-
-pub slice_bounds-add_marked-end : goal.slice_bounds-add_marked-end
-slice_bounds-add_marked-end c =
-    let g = c.folds in
-    lent_fits 121 c.args.rep.m g.new.given c.requires.0.equations g.auto.given
 
 pub add_marked-requires : goal.add_marked-requires
 add_marked-requires c =
     let g = c.folds in
     (g.auto.sy ∙ c.requires.3 ∙ sym (lent-sized 121 c.args.rep.m g.new.given c.requires.0.equations g.auto.given), subst Elements (sym (lent_same 121 c.args.rep.m g.new.given c.requires.0.equations g.auto.given)) (folded_elements _ _ _ _ _ _ (g.auto.given ∙ zeros_sized 121 _ c.requires.0.equations ∙ sym c.requires.2) g.ensures.folded), mark_flags _ _ _ c.mark.ensures)
-
-pub absorb_group-requires : goal.absorb_group-requires
-absorb_group-requires c = let e = c.add_marked.auto.words ∙ c.folds.auto.sy ∙ c.requires.3 in let o = c.requires.0.some in let b = c.requires.0.equations in (omega arith, omega arith)
 
 pub returns : goal.returns
 returns c = λ circuit salt leaves values size held P f en em ec.

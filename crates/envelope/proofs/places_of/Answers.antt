@@ -1,28 +1,21 @@
 -- `envelope::places_of` meets its contract: the places behind the header that reading gave. Assumes nothing.
-use mathlib.Core.Path.{sym, ap, ◌∙◌}
-use native.Mathlib.Omega.{arith}
-use Rattle.envelope.specs.declared.Header.{Header}
-use Rattle.envelope.specs.Envelope.{placed}
-use Rattle.envelope.proofs.Outcomes.{told_number, told_header, places_refused, places-done}
+use Rattle.std.proofs.Common.{arith}
+use Rattle.std.proofs.lemmas.Bool.Decides.{nat_tests}
+use Rattle.refusals.proofs.Numbers.{refusal_from_one}
+use Rattle.envelope.specs.Envelope.{read_outcome, places_of}
 use Rattle.envelope.proofs.Sizes.{read_right}
 use Rattle.envelope.proofs.places_of.Goals as goal
 
-pub returns-then-r-ne-DONE : goal.returns-then-r-ne-DONE
-returns-then-r-ne-DONE c =
-    let e = c.args.envelope.now in
-    let n = told_number e c.read-r.result c.read-r.ensures in
-    sym (places_refused e (λ z. c.if-r-ne-DONE.true (n ∙ z)))
+pub places-requires : goal.places-requires
+unfolding read_outcome
+places-requires c = grind (arith, nat_tests, read_right, c.in-Ok.ensures)
 
-pub placed-requires : goal.placed-requires
-placed-requires c =
-    let e = c.args.envelope.now in
-    let z = sym (told_number e c.read-r.result c.read-r.ensures) ∙ c.if-r-ne-DONE.false in
-    let h = ap (λ (x : Header). x.length) (told_header e c.read-r.result c.read-r.ensures z) in
-    let m = (read_right e z).right.message in
-    omega arith
+pub returns-in-Ok : goal.returns-in-Ok
+unfolding read_outcome places_of
+returns-in-Ok c = grind (arith, nat_tests, c.in-Ok.ensures)
 
-pub returns : goal.returns
-returns c =
-    let e = c.args.envelope.now in
-    let z = sym (told_number e c.read-r.result c.read-r.ensures) ∙ c.if-r-ne-DONE.false in
-    c.placed.ensures ∙ ap placed (told_header e c.read-r.result c.read-r.ensures z) ∙ sym (places-done e z)
+pub returns-in-Err : goal.returns-in-Err
+unfolding read_outcome places_of
+returns-in-Err c =
+    let positive = refusal_from_one c.in-Err.field-0 in
+    grind (arith, nat_tests, c.in-Err.ensures)

@@ -1,27 +1,26 @@
 -- `envelope::read` meets its contract: an envelope of three bytes or more has the number of its header and length. Assumes nothing.
-use mathlib.Core.Path.{sym, ap, ◌∙◌}
-use native.Mathlib.Omega.{arith}
-use lib.ListN.{length}
-use Rattle.envelope.specs.declared.Header.{Header}
-use Rattle.envelope.specs.Envelope.{header_number, read_ended}
-use Rattle.envelope.proofs.Outcomes.{headed, read_short, read_long, read_refused, read_done}
+use Rattle.std.proofs.Common.{arith}
+use Rattle.std.proofs.lemmas.Bool.Decides.{nat_tests}
+use Rattle.std.proofs.lemmas.Result.{err_from_is_err_and}
+use Rattle.refusals.proofs.Numbers.{refusal_from_one}
+use Rattle.envelope.specs.Envelope.{read_number, read_outcome}
+use Rattle.envelope.proofs.Outcomes.{headed}
 use Rattle.envelope.proofs.read.Goals as goal
 
-pub returns-then-envelope-lt-HEADER : goal.returns-then-envelope-lt-HEADER
-returns-then-envelope-lt-HEADER c =
-    let e = c.args.envelope.now in
-    read_refused e 10 c.refused.result (read_short e c.if-envelope-lt-HEADER.true) (λ z. omega arith) c.refused.ensures.0 c.refused.ensures.1
+pub returns-in_default : goal.returns-in_default
+unfolding read_outcome read_number
+returns-in_default c = grind (arith, nat_tests)
 
-pub returns-then-number-ne-DONE : goal.returns-then-number-ne-DONE
-returns-then-number-ne-DONE c =
-    let e = c.args.envelope.now in
-    let same = c.header_of-h.ensures ∙ headed e c.if-envelope-lt-HEADER.false in
-    let told = read_long e c.if-envelope-lt-HEADER.false ∙ ap (λ (h : Header). header_number h (length e)) (sym same) ∙ sym c.header_number-number.ensures in
-    read_refused e c.header_number-number.result c.refused-then-number-ne-DONE.result told c.if-number-ne-DONE.true c.refused-then-number-ne-DONE.ensures.0 c.refused-then-number-ne-DONE.ensures.1
+pub returns-in_err-check : goal.returns-in_err-check
+unfolding read_outcome read_number
+returns-in_err-check c =
+    let p = err_from_is_err_and c.from_residual.result c.from_residual.ensures.1 in
+    let same = headed c.args.envelope.now c.in-len3-up.len_at_least in
+    let positive = refusal_from_one c.in_err-check.field-0.0 in
+    rw (p.1, p.2) (grind (arith, nat_tests, c.in_err-check.ensures))
 
 pub returns : goal.returns
+unfolding read_outcome read_number
 returns c =
-    let e = c.args.envelope.now in
-    let same = c.header_of-h.ensures ∙ headed e c.if-envelope-lt-HEADER.false in
-    let told = read_long e c.if-envelope-lt-HEADER.false ∙ ap (λ (h : Header). header_number h (length e)) (sym same) ∙ sym c.header_number-number.ensures in
-    ap (read_ended 0) same ∙ read_done e (told ∙ c.if-number-ne-DONE.false)
+    let same = headed c.args.envelope.now c.in-len3-up.len_at_least in
+    grind (arith, nat_tests, c.in_ok-check.ensures)

@@ -2,15 +2,11 @@
 -- Assumes nothing.
 use mathlib.Core.Path.{◌≡◌}
 use mathlib.Core.List.{◌++◌}
-use Prim.Native.Nat.{◌≤◌, ◌-◌, min}
+use Prim.Native.Nat.{min}
 use lib.ListN.{length, take, drop}
 use Rattle.field.specs.Packing.{pack, packed_length}
 use Rattle.field.proofs.pack_into.Given as goal
 
 abbrev pub invariant-loop-i : goal.invariant-loop-i
 invariant-loop-i l =
-    (l.i ≤ l.n) × (l.n ≡ min (packed_length (length l.elements)) (length l.initial.out)) × (length l.out ≡ length l.initial.out)
-    × (l.out ≡ take l.i (pack l.elements) ++ drop l.i l.initial.out)
-
-abbrev pub decreases-loop-i : goal.decreases-loop-i
-decreases-loop-i l = l.n - l.i
+    (l.n ≡ min (packed_length (length l.elements)) (length l.initial.out)) × (l.out ≡ take l.i (pack l.elements) ++ drop l.i l.initial.out)

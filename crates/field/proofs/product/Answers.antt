@@ -3,4 +3,4 @@
 use Rattle.field.proofs.product.Goals as goal
 
 pub returns : goal.returns
-returns c = c.products-table.ensures.entry c.args.a c.args.b
+returns c = rw (c.from.ensures, c.from-2.ensures) (c.products-table.ensures.entry c.args.a c.args.b)

@@ -2,14 +2,9 @@
 -- Assumes nothing.
 use mathlib.Core.Path.{◌≡◌}
 use mathlib.Core.List.{◌++◌}
-use Prim.Native.Nat.{◌≤◌, ◌-◌}
 use lib.ListN.{length, take, drop}
 use Rattle.field.specs.Packing.{unpack}
 use Rattle.field.proofs.unpack_into.Given as goal
 
 abbrev pub invariant-loop-i : goal.invariant-loop-i
-invariant-loop-i l =
-    (l.i ≤ length l.initial.out) × (length l.out ≡ length l.initial.out) × (l.out ≡ take l.i (unpack (length l.initial.out) l.bytes) ++ drop l.i l.initial.out)
-
-abbrev pub decreases-loop-i : goal.decreases-loop-i
-decreases-loop-i l = length l.initial.out - l.i
+invariant-loop-i l = l.out ≡ take l.i (unpack (length l.initial.out) l.bytes) ++ drop l.i l.initial.out

@@ -5,22 +5,6 @@ use lib.ListN.{length-set}
 use Rattle.hashes.proofs.Laws.{assembled}
 use Rattle.hashes.proofs.assemble.Goals as goal
 
-pub section-a-requires : goal.section-a-requires
-section-a-requires c = simp length-set (omega arith)
-
-pub section-b-requires : goal.section-b-requires
-section-b-requires c =
-    let a = c.args in
-    let s = c.section-a in
-    omega (arith, s.auto.block, s.ensures.0, length-set a.block.now 0 a.byte)
-
-pub section-requires : goal.section-requires
-section-requires c =
-    let a = c.args in
-    let s = c.section-a in
-    let t = c.section-b in
-    omega (arith, s.auto.block, s.ensures.0, t.auto.block, t.ensures.0, length-set a.block.now 0 a.byte)
-
 pub returns : goal.returns
 returns c =
     let a = c.args in

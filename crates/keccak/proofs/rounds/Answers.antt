@@ -9,14 +9,14 @@ use Rattle.keccak.proofs.Steps.{rounds-zero, two_more, rounds-keccak_f}
 use Rattle.keccak.proofs.rounds.Goals as goal
 
 pub loop-i-init : goal.loop-i-init
-loop-i-init c = (omega arith, sym (rounds-zero _))
+loop-i-init c = sym (rounds-zero _)
 
 pub loop-i-preserved : goal.loop-i-preserved
-loop-i-preserved c = (omega arith, two_more _ _ c.loop-i-test.true c.loop-i.invariant.1 c.two_rounds-t.ensures)
+loop-i-preserved c = two_more _ _ c.loop-i-test.true c.loop-i.invariant c.two_rounds-s.ensures
 
 pub returns : goal.returns
 returns c =
     let e : 2 * c.loop-i.i ≡ 24 = omega arith in
-    c.turn_over.ensures.0 ∙ c.loop-i.invariant.1
+    c.turn_over.ensures.0 ∙ c.loop-i.invariant
     ∙ ap (λ (n : ℕ). spec.rounds n (turned kept (listed c.turn_over-s.result))) e ∙ rounds-keccak_f _
     ∙ ap spec.keccak_f c.turn_over-s.ensures.1

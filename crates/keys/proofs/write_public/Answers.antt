@@ -1,7 +1,15 @@
 -- `keys::write_public` meets its contract. Assumes nothing.
-use Rattle.keys.proofs.Made.{seed_then_packed}
+use mathlib.Core.Path.{◌≡◌, sym, ap₂, ◌∙◌}
+use mathlib.Core.List.{◌++◌}
+use native.Mathlib.Omega.{arith}
+use lib.ListN.{length}
+use Rattle.memory.proofs.Stores.{over-whole}
+use Rattle.field.specs.Packing.{packed_length}
+use Rattle.field.proofs.Packing.{length-pack}
 use Rattle.keys.proofs.write_public.Goals as goal
 
 pub returns : goal.returns
 returns c =
-    seed_then_packed c.args.seed.now c.args.t.now c.args.pk.now _ _ c.copy.ensures c.requires c.pack_into.ensures
+    let b = c.split_at_mut-first.ensures.back_len in
+    let size : length c.split_at_mut-first.result.1.now ≡ packed_length (length c.args.t.now) = omega arith in
+    ap₂ ◌++◌ c.copy_from_slice.ensures.after (c.pack_into.ensures ∙ over-whole _ _ (length-pack c.args.t.now ∙ sym size))

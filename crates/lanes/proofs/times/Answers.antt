@@ -16,4 +16,4 @@ pub overflow_mul-result-4 : goal.overflow_mul-result-4
 overflow_mul-result-4 c = bit_fits _ _ c.doubled-w8.type_inv
 
 pub returns : goal.returns
-returns c = times_lanes _ _ _ _ c.doubled-w2.ensures c.doubled-w4.ensures c.doubled-w8.ensures _ _ c.wide-n.ensures.0
+returns c = times_lanes _ _ _ _ c.doubled-w2.ensures c.doubled-w4.ensures c.doubled-w8.ensures _ _ c.from-n.ensures

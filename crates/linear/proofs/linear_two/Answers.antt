@@ -1,74 +1,36 @@
--- `linear::linear_two` meets its contract: the three tables are added to words of zeros, their places are those of the circuit's tables, and the strands are the two results.
--- Assumes nothing.
-use mathlib.Core.Path.{refl, ap, ◌∙◌}
-use Prim.Native.Nat.{ℕ, ◌+◌, ◌*◌, ◌/◌, ◌%◌}
-use native.Mathlib.Omega.{arith}
-use Rattle.field.proofs.Packing.{half_up}
-use Rattle.forms.proofs.Room.{rows_size, affine_size, affine_two, circuit_three}
-use Rattle.linear.specs.Two.{strand}
-use Rattle.linear.proofs.Shares.{strand_values}
+-- `linear::linear_two` meets its contract: the three tables are added to pairs of zeros, and the sides are the two results. Assumes nothing.
+use mathlib.Core.Path.{◌∙◌}
+use Prim.Native.Nat.{◌+◌}
+use Rattle.forms.specs.Circuit.{affine_length}
+use Rattle.linear.specs.Word.{two_words}
+use Rattle.linear.proofs.Shares.{TableAdded, zeros, length-zeros, side_values}
+use Rattle.linear.proofs.Sides.{first, second}
 use Rattle.linear.proofs.linear_two.Goals as goal
-
-pub overflow_mul-size : goal.overflow_mul-size
-overflow_mul-size c =
-    let n = c.args.n in
-    let m = c.args.m in
-    let pre = c.requires in
-    let r = rows_size n m in
-    let w = half_up m in
-    let two = affine_two n m in
-    let three = circuit_three n m in
-    omega arith
-
-pub overflow_add-size : goal.overflow_add-size
-overflow_add-size c =
-    let n = c.args.n in
-    let m = c.args.m in
-    let pre = c.requires in
-    let r = rows_size n m in
-    let w = half_up m in
-    let two = affine_two n m in
-    let three = circuit_three n m in
-    omega arith
-
-pub add_tables-requires : goal.add_tables-requires
-add_tables-requires c =
-    let n = c.args.n in
-    let m = c.args.m in
-    let pre = c.requires in
-    let r = rows_size n m in
-    let w = half_up m in
-    let two = affine_two n m in
-    let three = circuit_three n m in
-    omega arith
-
-pub part-requires-3 : goal.part-requires-3
-part-requires-3 c =
-    let pre = c.requires in
-    let k = c.add_tables.auto.z in
-    omega arith
 
 pub returns : goal.returns
 returns c =
     let a = c.args in
-    let n = a.n in
-    let m = a.m in
-    let b = a.circuit.now in
-    let t = c.add_tables in
-    let px = c.part in
-    let py = c.part-2 in
-    let pz = c.part-3 in
-    let xs = t.new.x in
-    let ys = t.new.y in
-    let zs = t.new.z in (
+    let t = c.of-tables.result in
+    let p = c.of-tables.ensures in
+    let pairs = c.join.new.pairs in
+    let r = c.add_tables in
+    let x = c.part in
+    let y = c.part-2 in
+    let z = c.part-3 in
+    let l = length-zeros 121 a.m c.requires.1 in
+    let tx : TableAdded two_words a.n a.m a.circuit.now pairs 0 (zeros 121 a.m) r.new.x =
+    record { table = t.first.bytes.now; width = t.first.width; rows = t.first.rows; stands = p.first; before = l; after = r.auto.x ∙ l; added = r.ensures.0 }
+    in
+    let ty : TableAdded two_words a.n a.m a.circuit.now pairs (affine_length a.n a.m) (zeros 121 a.m) r.new.y =
+    record { table = t.second.bytes.now; width = t.second.width; rows = t.second.rows; stands = p.second; before = l; after = r.auto.y ∙ l; added = r.ensures.1 }
+    in
+    let tz : TableAdded two_words a.n a.m a.circuit.now pairs (affine_length a.n a.m + affine_length a.n a.m) (zeros 121 a.m) r.new.z =
+    record { table = t.third.bytes.now; width = t.third.width; rows = t.third.rows; stands = p.third; before = l; after = r.auto.z ∙ l; added = r.ensures.2 }
+    in (
       λ f share circuit shares.
-          strand_values b n m a.shares.now share c.requires.3 shares 0 (m / 2 + m % 2) (m / 2 + m % 2 + m * (n / 2 + n % 2)) (n / 2 + n % 2) 242 _ _ _ xs ys zs
-          px.new.x py.new.x pz.new.x (half_up m) (affine_size n m) (half_up n) refl refl refl
-          (px.ensures.0 ∙ ap (λ (i : ℕ). strand 0 i xs) c.requires.5) (py.ensures.0 ∙ ap (λ (i : ℕ). strand 0 i ys) c.requires.6) (pz.ensures.0 ∙ ap (λ (i : ℕ). strand 0 i zs) c.requires.7)
-          t.ensures.0.evens t.ensures.1.evens t.ensures.2.evens f circuit,
+          side_values 121 a.m c.requires.1 (λ w. w.first) 0 first a.circuit.now a.n pairs a.shares.now c.join.ensures.0 share c.requires.3 shares
+          r.new.x r.new.y r.new.z x.new.firsts y.new.firsts z.new.firsts tx ty tz x.ensures.0 y.ensures.0 z.ensures.0 f circuit,
       λ f share circuit shares.
-          strand_values b n m a.others.now share c.requires.4 shares 1 (m / 2 + m % 2) (m / 2 + m % 2 + m * (n / 2 + n % 2)) (n / 2 + n % 2) 242 _ _ _ xs ys zs
-          px.new.y py.new.y pz.new.y (half_up m) (affine_size n m) (half_up n) refl refl refl
-          (px.ensures.1 ∙ ap (λ (i : ℕ). strand 1 i xs) c.requires.5) (py.ensures.1 ∙ ap (λ (i : ℕ). strand 1 i ys) c.requires.6) (pz.ensures.1 ∙ ap (λ (i : ℕ). strand 1 i zs) c.requires.7)
-          t.ensures.0.odds t.ensures.1.odds t.ensures.2.odds f circuit,
+          side_values 121 a.m c.requires.1 (λ w. w.second) 16 second a.circuit.now a.n pairs a.others.now c.join.ensures.1 share c.requires.4 shares
+          r.new.x r.new.y r.new.z x.new.seconds y.new.seconds z.new.seconds tx ty tz x.ensures.1 y.ensures.1 z.ensures.1 f circuit,
     )

@@ -1,12 +1,10 @@
--- `lines::elements` meets its contract. The invariant: the bytes passed are below 16. The measure is what is left of the part.
+-- `lines::elements` meets its contract. The invariant: the bytes passed are what the old ones leave modulo 16, and the others are the old ones.
 -- Assumes nothing.
 use mathlib.Core.Path.{◌≡◌}
-use Prim.Native.Nat.{ℕ, ◌-◌, ◌%◌, ◌≤◌, ◌<◌}
-use lib.ListN.{length, get_or}
+use Prim.Native.Nat.{◌%◌}
+use lib.ListN.{get_or, take, drop}
+use Rattle.memory.specs.Lists.{table}
 use Rattle.lines.proofs.elements.Given as goal
 
-abbrev pub invariant-loop-i : goal.invariant-loop-i
-invariant-loop-i l = (l.i ≤ length l.out) × (length l.out ≡ length l.initial.out) × ((k : ℕ) → k < l.i → get_or l.out k 0 < 16) × ((k : ℕ) → k < l.i → get_or l.out k 0 ≡ get_or l.initial.out k 0 % 16) × ((k : ℕ) → l.i ≤ k → get_or l.out k 0 ≡ get_or l.initial.out k 0)
-
-abbrev pub decreases-loop-i : goal.decreases-loop-i
-decreases-loop-i l = length l.out - l.i
+abbrev pub invariant-loop-b : goal.invariant-loop-b
+invariant-loop-b l = (take l.b-index l.out ≡ table l.b-index (λ i. get_or l.initial.out i 0 % 16)) × (drop l.b-index l.out ≡ drop l.b-index l.initial.out)

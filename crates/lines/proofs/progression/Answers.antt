@@ -1,32 +1,21 @@
--- `lines::progression` meets its contract: the bytes before i follow the rule, and x is the next. The measure is what is left of the part.
+-- `lines::progression` meets its contract. The invariant: the bytes passed follow the rule, and x is the next.
 -- Assumes nothing.
+use mathlib.Core.Path.{refl}
 use Prim.Native.Nat.{ℕ, ◌+◌, ◌*◌, ◌%◌}
 use native.Mathlib.Omega.{arith}
-use lib.ListN.{length-set}
-use Rattle.lines.proofs.Rule.{rule_more, rule_all, progression_first, progression_next}
+use Rattle.memory.specs.Lists.{table}
+use Rattle.lines.proofs.Rule.{rule_more, progression_next}
 use Rattle.lines.proofs.progression.Goals as goal
 
-pub loop-i-init : goal.loop-i-init
-loop-i-init c =
-    let pre = c.requires in
-    (omega arith, omega arith, omega arith, progression_first c.args.step c.args.start pre.1, λ k h. absurd (omega arith))
+pub loop-b-init : goal.loop-b-init
+unfolding table
+loop-b-init c = (omega arith, omega arith, refl)
 
-pub loop-i-smaller : goal.loop-i-smaller
-loop-i-smaller c = simp length-set (omega arith)
-
-pub loop-i-preserved : goal.loop-i-preserved
-loop-i-preserved c =
-    let l = c.loop-i in
+pub loop-b-preserved : goal.loop-b-preserved
+loop-b-preserved c =
+    let l = c.loop-b in
     let a = c.args in (
-      simp length-set (omega arith),
       omega arith,
-      simp length-set (omega arith),
-      progression_next a.step a.start l.i l.x l.invariant.3,
-      rule_more (λ (k : ℕ). (a.step * k + a.start) % 256) l.out l.i _ (omega arith) l.invariant.4 (let b = l.invariant.1 in let e = l.invariant.3 in omega arith),
+      progression_next a.step a.start l.b-index l.x l.invariant.1,
+      rule_more (λ (i : ℕ). (a.step * i + a.start) % 256) l.out l.b-index _ (omega arith) l.invariant.2 (omega arith),
     )
-
-pub returns : goal.returns
-returns c =
-    let l = c.loop-i in
-    let a = c.args in
-    rule_all (λ (k : ℕ). (a.step * k + a.start) % 256) l.out l.i _ (omega arith) l.invariant.2 l.invariant.4

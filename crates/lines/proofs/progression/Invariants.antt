@@ -1,13 +1,10 @@
--- `lines::progression` meets its contract: the bytes before i follow the rule, and x is the next. The measure is what is left of the part.
+-- `lines::progression` meets its contract. The invariant: the bytes passed follow the rule, and x is the next.
 -- Assumes nothing.
 use mathlib.Core.Path.{◌≡◌}
-use Prim.Native.Nat.{ℕ, ◌+◌, ◌-◌, ◌*◌, ◌%◌, ◌≤◌, ◌<◌}
-use lib.ListN.{length, get_or}
+use Prim.Native.Nat.{◌+◌, ◌*◌, ◌%◌, ◌<◌}
+use lib.ListN.{take}
+use Rattle.memory.specs.Lists.{table}
 use Rattle.lines.proofs.progression.Given as goal
 
-abbrev pub invariant-loop-i : goal.invariant-loop-i
-invariant-loop-i l =
-    (l.i ≤ length l.out) × (l.x < 256) × (length l.out ≡ length l.initial.out) × (l.x ≡ (l.step * l.i + l.start) % 256) × ((k : ℕ) → k < l.i → get_or l.out k 0 ≡ (l.step * k + l.start) % 256)
-
-abbrev pub decreases-loop-i : goal.decreases-loop-i
-decreases-loop-i l = length l.out - l.i
+abbrev pub invariant-loop-b : goal.invariant-loop-b
+invariant-loop-b l = (l.x < 256) × (l.x ≡ (l.step * l.b-index + l.start) % 256) × (take l.b-index l.out ≡ table l.b-index (λ i. (l.step * i + l.start) % 256))

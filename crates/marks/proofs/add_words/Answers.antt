@@ -1,23 +1,8 @@
--- `marks::add_words` meets its contract. The invariant: the words below k are added to, and the others are as they were.
--- Assumes nothing.
-use mathlib.Core.Path.{refl}
-use native.Mathlib.Omega.{arith}
-use lib.ListN.{length-set}
-use Rattle.memory.proofs.Groups.{stepped_none, stepped_more, stepped_all}
+-- `marks::add_words` meets its contract: each word is what the closure gives. Assumes nothing.
+use Rattle.std.proofs.Common.{of_calls}
 use Rattle.marks.specs.Marks.{EachWord}
 use Rattle.marks.proofs.add_words.Goals as goal
 
-pub loop-k-init : goal.loop-k-init
-loop-k-init c = (omega arith, refl, stepped_none _ _)
-
-pub bounds-more-k : goal.bounds-more-k
-bounds-more-k c = omega arith
-
-pub loop-k-preserved : goal.loop-k-preserved
-loop-k-preserved c =
-    let l = c.loop-k in
-    (omega arith, simp length-set (omega arith), stepped_more _ _ _ _ l.invariant.2 _ (omega arith) (refl))
-
 pub returns : goal.returns
 unfolding EachWord
-returns c = stepped_all _ _ _ _ c.loop-k.invariant.2 (omega arith)
+returns c k h = search (of_calls, c.each_word.ensures k h)

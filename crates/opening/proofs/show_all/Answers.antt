@@ -12,14 +12,12 @@ pub loop-i-init : goal.loop-i-init
 loop-i-init c =
     let a = c.args in
     let s = S a.p in (
-      omega arith,
-      omega arith,
-      omega arith,
       sections_none (leaf_of a.p a.salt.now a.hidden.now a.roots.now) s a.roots.now,
       sections_none (shown_of a.p a.salt.now a.hidden.now a.roots.now) (a.p.l * s + 2 * s) a.out.now,
     )
 
 pub show-requires : goal.show-requires
+unfolding S
 show-requires c =
     let a = c.args in
     let l = c.loop-i in
@@ -29,17 +27,15 @@ show-requires c =
     omega arith
 
 pub loop-i-preserved : goal.loop-i-preserved
+unfolding S
 loop-i-preserved c =
     let a = c.args in
     let h = c.requires in
     let l = c.loop-i in
     let one = c.show in
     let more : l.i < a.p.tau = omega arith in (
-      omega arith,
-      omega arith,
-      omega arith,
-      leaves_turn a.p a.salt.now a.hidden.now a.roots.now h.5 l.i l.roots _ more l.invariant.3 one.ensures.leaf,
-      shown_turn a.p a.salt.now a.hidden.now a.roots.now h.5 l.i l.roots a.out.now l.out _ more l.invariant.3 l.invariant.4 one.ensures.shown,
+      leaves_turn a.p a.salt.now a.hidden.now a.roots.now h.5 l.i l.roots _ more l.invariant.0 one.ensures.leaf,
+      shown_turn a.p a.salt.now a.hidden.now a.roots.now h.5 l.i l.roots a.out.now l.out _ more l.invariant.0 l.invariant.1 one.ensures.shown,
     )
 
 pub returns : goal.returns
@@ -47,4 +43,4 @@ returns c =
     let a = c.args in
     let h = c.requires in
     let l = c.loop-i in
-    let s = S a.p in record { shown = sections_whole (shown_of a.p a.salt.now a.hidden.now a.roots.now) (a.p.l * s + 2 * s) a.out.now l.i a.p.tau l.out (omega arith) h.6 l.invariant.4; leaves = sections_whole (leaf_of a.p a.salt.now a.hidden.now a.roots.now) s a.roots.now l.i a.p.tau l.roots (omega arith) h.5 l.invariant.3 }
+    let s = S a.p in record { shown = sections_whole (shown_of a.p a.salt.now a.hidden.now a.roots.now) (a.p.l * s + 2 * s) a.out.now l.i a.p.tau l.out (omega arith) h.6 l.invariant.1; leaves = sections_whole (leaf_of a.p a.salt.now a.hidden.now a.roots.now) s a.roots.now l.i a.p.tau l.roots (omega arith) h.5 l.invariant.0 }

@@ -2,8 +2,8 @@
 -- the roots behind them are still as they were. Assumes nothing.
 use mathlib.Core.Path.{◌≡◌}
 use mathlib.Core.List.{◌++◌}
-use Prim.Native.Nat.{◌+◌, ◌-◌, ◌*◌, ◌≤◌}
-use lib.ListN.{length, drop}
+use Prim.Native.Nat.{◌+◌, ◌*◌}
+use lib.ListN.{drop}
 use Rattle.sets.specs.Sets.{S}
 use Rattle.biscuit.specs.Signature.{repeated}
 use Rattle.opening.specs.Shown.{leaf_of, shown_of}
@@ -11,11 +11,5 @@ use Rattle.opening.proofs.show_all.Given as goal
 
 abbrev pub invariant-loop-i : goal.invariant-loop-i
 invariant-loop-i l =
-    (l.i ≤ l.p.tau)
-    × (length l.roots ≡ length l.initial.roots)
-    × (length l.out ≡ length l.initial.out)
-    × (l.roots ≡ repeated l.i (leaf_of l.p l.salt l.hidden l.initial.roots) ++ drop (l.i * S l.p) l.initial.roots)
+    (l.roots ≡ repeated l.i (leaf_of l.p l.salt l.hidden l.initial.roots) ++ drop (l.i * S l.p) l.initial.roots)
     × (l.out ≡ repeated l.i (shown_of l.p l.salt l.hidden l.initial.roots) ++ drop (l.i * (l.p.l * S l.p + 2 * S l.p)) l.initial.out)
-
-abbrev pub decreases-loop-i : goal.decreases-loop-i
-decreases-loop-i l = l.p.tau - l.i

@@ -1,16 +1,11 @@
--- `replies::answer_pass` meets its contract. The invariant: whatever circuit work holds, the second hash has absorbed `done` repetitions.
--- The repetitions are taken two at a time, and one that is left over by itself.
--- Assumes nothing.
-use mathlib.Core.Path.{◌≡◌}
-use Prim.Native.Nat.{◌-◌, ◌≤◌}
-use lib.ListN.{length}
+-- The invariant: whatever circuit work holds, the second hash has absorbed `pair` pairs of repetitions. Assumes nothing.
+use Prim.Native.Nat.{◌*◌}
 use Rattle.passes.specs.Passes.{Kept}
 use Rattle.replies.proofs.Answering.{AnsweredTo}
 use Rattle.replies.proofs.answer_pass.Given as goal
 
-abbrev pub invariant-loop-done : goal.invariant-loop-done
-invariant-loop-done l =
-    (l.done ≤ l.p.tau) × (length l.work ≡ length l.initial.work) × Kept l.p l.initial.work l.work × AnsweredTo l.p l.salt l.secret l.packing l.initial.work l.done l.initial.next l.next
-
-abbrev pub decreases-loop-done : goal.decreases-loop-done
-decreases-loop-done l = l.p.tau - l.done
+abbrev pub invariant-loop-pair : goal.invariant-loop-pair
+invariant-loop-pair l = record {
+  kept : Kept l.basis.p l.initial.work l.work;
+  answered : AnsweredTo l.basis.p l.basis.salt.now l.basis.secret.now l.packing l.initial.work (2 * l.pair) l.initial.next l.next;
+}

@@ -1,10 +1,9 @@
 -- `report::put_bytes` meets its contract: the part is lent, and comes back holding the bytes. Assumes nothing.
-use mathlib.Core.Path.{refl}
-use native.Mathlib.Omega.{arith}
-use Rattle.memory.proofs.Sections.{copied_part}
+use Rattle.std.proofs.Common.{refl, ap, ◌∙◌, arith}
+use Rattle.memory.proofs.Parts.{back, lent-put}
 use Rattle.report.proofs.put_bytes.Goals as goal
 
 pub returns : goal.returns
 returns c =
-    let p = c.requires in
-    (refl, copied_part c.args.text.now c.args.at _ c.args.bytes.now c.copy.new.dst (omega arith) (omega arith) (omega arith) c.copy.ensures)
+    let a = c.args in
+    (refl, ap (back a.line.now a.at _) c.copy_from_slice.ensures.after ∙ lent-put a.line.now a.at _ a.bytes.now (omega arith))

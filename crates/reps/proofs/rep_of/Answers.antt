@@ -4,9 +4,6 @@ use Prim.Native.Nat.{ℕ}
 use Rattle.sets.specs.Sets.{S}
 use Rattle.reps.proofs.rep_of.Goals as goal
 
-pub groups_of-groups-requires : goal.groups_of-groups-requires
-groups_of-groups-requires c = c.requires
-
 pub returns : goal.returns
 unfolding S
-returns c = ap (λ (g : ℕ). record { s = S c.args.p; n = c.args.p.n; m = c.args.p.m; e = c.args.e; hidden = c.args.hidden; groups = g }) c.groups_of-groups.ensures
+returns c = ap (λ (g : ℕ). record { s = S c.args.p; n = c.args.p.n; m = c.args.p.m; e = c.args.e; hidden = c.args.hidden; groups = g }) c.groups_of.ensures

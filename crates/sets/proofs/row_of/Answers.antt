@@ -1,9 +1,10 @@
--- `sets::row_of` meets its contract: a number past the table has the parameters of number 0.
+-- `sets::row_of` meets its contract: each row has what the formulas say, and a number past the table has the row of number 0.
 -- Assumes nothing.
-use native.Mathlib.Omega.{arith}
-use lib.Dec.{lit<}
-use Rattle.sets.proofs.Laws.{no_such_set_lem}
+use Rattle.sets.proofs.Laws.{table_row, no_such_row}
 use Rattle.sets.proofs.row_of.Goals as goal
 
-pub returns-else-set-lt-ROWS : goal.returns-else-set-lt-ROWS
-returns-else-set-lt-ROWS c = record { below = lit< tt; same = no_such_set_lem _ (omega arith) }
+pub returns-then-set-lt7 : goal.returns-then-set-lt7
+returns-then-set-lt7 c = table_row c.args.set _ c.if-set-lt7.true
+
+pub returns-else-set-lt7 : goal.returns-else-set-lt7
+returns-else-set-lt7 c = no_such_row c.args.set c.if-set-lt7.false

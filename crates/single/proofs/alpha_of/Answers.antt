@@ -1,19 +1,21 @@
 -- `single::alpha_of` meets its contract, for any circuit that the bytes hold.
 -- Assumes nothing.
-use mathlib.Core.Path.{◌∙◌}
-use native.Mathlib.Nat.{sub-zero}
+use mathlib.Core.Path.{ap, ◌∙◌}
+use Prim.Native.Nat.{◌+◌, ◌*◌, ◌≤◌}
 use native.Mathlib.Omega.{arith}
-use lib.Seq.{length-take-le}
-use Rattle.group.proofs.Shares.{tape_size}
-use Rattle.single.proofs.Alpha.{alpha-held}
+use Rattle.sponge.specs.Sponge.{shake256}
+use Rattle.hashes.specs.Hashes.{tape_fields}
+use Rattle.group.proofs.Shares.{tape_is}
+use Rattle.single.proofs.Alpha.{alpha-held, front-lent, front-length}
 use Rattle.single.proofs.alpha_of.Goals as goal
-
-pub alpha_in-requires : goal.alpha_in-requires
-alpha_in-requires c =
-    let n = c.requires.0.variables in
-    let m = c.requires.0.equations in
-    (c.requires.0, c.requires.1, c.requires.2, c.requires.3, c.requires.4, length-take-le _ _ (omega arith) ∙ sub-zero _ ∙ tape_size c.args.rep, length-take-le _ _ (omega arith) ∙ sub-zero _, c.requires.5)
 
 pub returns : goal.returns
 returns c = λ P f en em ec.
-    alpha-held c.args.rep c.args.i c.args.circuit.now c.args.values.now c.args.salt.now c.args.seed.now _ c.alpha_in.ensures P f en em ec
+    let rep = c.args.rep in
+    let z = c.requires.0 in
+    let u = z.variables in
+    let w = z.equations in
+    let fits : c.div_ceil.result + 2 * c.div_ceil-2.result ≤ 181 = grind arith in
+    alpha-held rep c.args.i c.args.circuit.now c.args.values.now c.args.salt.now c.args.seed.now _ _
+    (front-lent _ _ _ _ fits c.tape.auto.out ∙ c.tape.ensures ∙ ap (shake256 (tape_fields c.args.salt.now rep.e c.args.i c.args.seed.now)) (front-length _ _ fits ∙ tape_is rep _ _ c.div_ceil.ensures c.div_ceil-2.ensures))
+    c.of_tape.ensures P f en em ec

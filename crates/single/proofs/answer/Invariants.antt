@@ -1,16 +1,13 @@
 -- `single::answer` meets its contract. The invariant: the first k entries are those of x·ε + a, and the others are as they were.
 -- Assumes nothing.
 use mathlib.Core.Path.{◌≡◌}
-use mathlib.Core.List.{◌++◌}
-use Prim.Native.Nat.{◌-◌, ◌≤◌}
-use lib.ListN.{length, take, drop}
-use Rattle.field.specs.Packing.{unpack}
-use Rattle.field.specs.Vectors.{◌⊕◌, ◌⊙◌}
+use Prim.Native.Nat.{◌+◌, ◌*◌}
+use lib.Bits.{bit_xor}
+use Rattle.memory.proofs.Groups.{Stepped}
+use Rattle.field.specs.Field.{mul}
+use Rattle.field.specs.Packing.{nib}
+use Rattle.field.specs.Vectors.{◌!◌}
 use Rattle.single.proofs.answer.Given as goal
 
 abbrev pub invariant-loop-k : goal.invariant-loop-k
-invariant-loop-k l =
-    (l.k ≤ length l.initial.out) × (length l.out ≡ length l.initial.out) × (l.out ≡ take l.k (l.initial.out ⊙ l.challenge ⊕ unpack (length l.initial.out) (drop l.mask l.tape)) ++ drop l.k l.initial.out)
-
-abbrev pub decreases-loop-k : goal.decreases-loop-k
-decreases-loop-k l = length l.initial.out - l.k
+invariant-loop-k l = Stepped (λ j x y. y ≡ bit_xor (mul x (l.challenge ! j)) (nib l.tape (l.mask * 2 + j))) l.k l.initial.out l.out

@@ -1,7 +1,6 @@
--- `single::product` meets its contract: lane 0 of the word is the product.
--- Assumes nothing.
+-- `single::product` meets its contract: lane 0 of the word is the product. Assumes nothing.
 use Rattle.single.proofs.Alpha.{lane_product}
 use Rattle.single.proofs.product.Goals as goal
 
 pub returns : goal.returns
-returns c = lane_product _ _ _ _ c.wide.ensures.0 c.times.ensures
+returns c = lane_product _ _ _ _ c.from.ensures c.times.ensures

@@ -1,7 +1,7 @@
 -- `tree::rebuild` meets its contract. The invariant: the first n seeds of `out` are level k of the tree that the path gives, with zeros in the hidden place.
 -- Assumes nothing.
 use mathlib.Core.Path.{◌≡◌}
-use Prim.Native.Nat.{◌-◌, ◌*◌, ◌^◌, ◌≤◌}
+use Prim.Native.Nat.{◌*◌, ◌^◌}
 use lib.ListN.{length, replicate}
 use Rattle.memory.specs.Sections.{pieces}
 use Rattle.tree.specs.Tree.{children}
@@ -10,10 +10,5 @@ use Rattle.tree.proofs.rebuild.Given as goal
 
 abbrev pub invariant-loop-k : goal.invariant-loop-k
 invariant-loop-k l =
-    (l.k ≤ l.l)
-    × (l.n ≡ 2 ^ l.k)
-    × (length l.out ≡ 2 ^ l.l * l.s)
-    × (pieces l.s l.n l.out ≡ coded_at (children l.s l.salt l.e) l.l (pieces l.s l.l l.path) l.hidden (replicate l.s 0) l.k)
-
-abbrev pub decreases-loop-k : goal.decreases-loop-k
-decreases-loop-k l = l.l - l.k
+    (length l.out ≡ 2 ^ l.l * l.s)
+    × (pieces l.s (2 ^ l.k) l.out ≡ coded_at (children l.s l.of.salt.now l.of.e) l.l (pieces l.s l.l l.path) l.hidden (replicate l.s 0) l.k)

@@ -1,13 +1,34 @@
--- `turns::turn` meets its contract: the values of a repetition have room in the array.
+-- `turns::turn` meets its contract: opened, the leaves put into work, and both hashes take their parts.
 -- Assumes nothing.
+use mathlib.Core.Path.{sym, subst}
+use Prim.Native.Nat.{◌≤◌}
+use lib.ListN.{length}
 use native.Mathlib.Omega.{arith}
-use Prim.Native.Nat.{◌+◌}
-use Rattle.answers.proofs.Turning.{zeros_sized}
+use Rattle.forms.specs.Room.{HoldsCircuit}
+use Rattle.biscuit.specs.Room.{room_end}
+use Rattle.biscuit.specs.Verify.{f}
+use Rattle.turns.specs.declared.claim.Repetition.{Repetition}
+use Rattle.turns.specs.Turns.{key_of, circuit_part}
+use Rattle.turns.proofs.Turning.{length_of_leaves, put-circuit, put-leaves}
 use Rattle.turns.proofs.turn.Goals as goal
 
-pub turn_in-requires : goal.turn_in-requires
-turn_in-requires c =
-    let p = c.args.p in
-    let a = c.requires.0.variables in
-    let b = c.requires.0.equations in
-    (c.requires.0, c.requires.1, c.requires.2, c.requires.3, c.requires.4, c.requires.5, zeros_sized 602 (p.n + p.m + p.m + p.m + p.m) (omega arith), c.requires.6, c.requires.7)
+pub absorb_first-first-requires : goal.absorb_first-first-requires
+absorb_first-first-requires c =
+    let o = c.open-opened.result in
+    let w = c.args.work.now in
+    let enough = subst (λ (r : Repetition). room_end r.claim.p ≤ length w) (sym c.open-opened.ensures) c.requires.0 in
+    let kept = c.rebuild.auto.work in
+    (omega arith, put-leaves o.repetition.claim.p w _ _ enough (length_of_leaves o.repetition) c.rebuild.ensures)
+
+pub absorb_second-second-requires : goal.absorb_second-second-requires
+absorb_second-second-requires c =
+    let o = c.open-opened.result in
+    let w = c.args.work.now in
+    let enough = subst (λ (r : Repetition). room_end r.claim.p ≤ length w) (sym c.open-opened.ensures) c.requires.0 in
+    let kept = c.rebuild.auto.work in
+    let circuit =
+    subst (λ (r : Repetition). HoldsCircuit r.claim.p.n r.claim.p.m (f r.claim.p (key_of r.claim)) (circuit_part r.claim.p w)) (sym c.open-opened.ensures) c.requires.1.circuit in (
+      omega arith,
+      subst (HoldsCircuit _ _ _) (sym (put-circuit o.repetition.claim.p w _ _ enough (length_of_leaves o.repetition) c.rebuild.ensures)) circuit,
+      put-leaves o.repetition.claim.p w _ _ enough (length_of_leaves o.repetition) c.rebuild.ensures,
+    )

@@ -10,12 +10,6 @@ use Rattle.field.specs.Packing.{unpack}
 use Rattle.field.proofs.Packing.{length-unpack, get_or-unpack, nib-even, nib_odd}
 use Rattle.vectors.proofs.halves.Goals as goal
 
-pub bounds-out-j-in-loop-k : goal.bounds-out-j-in-loop-k
-bounds-out-j-in-loop-k c =
-    let l = c.loop-k in
-    let room = c.requires in
-    simp length-set (omega arith)
-
 pub loop-k-preserved : goal.loop-k-preserved
 loop-k-preserved c =
     let l = c.loop-k in
@@ -29,11 +23,10 @@ loop-k-preserved c =
     let high = nib_odd bytes l.k in
     let first = get_or-unpack (length out) bytes (l.k * 2) (omega arith) in
     let second = get_or-unpack (length out) bytes (l.k * 2 + 1) (omega arith) in
-    let once = written_more target out l.out (l.k * 2) _ (omega arith) size l.invariant.2 (sym (first ∙ low)) in
+    let once = written_more target out l.out (l.k * 2) _ (omega arith) size l.invariant.1 (sym (first ∙ low)) in
     let small : get_or bytes l.k 0 / 16 % 16 ≡ get_or bytes l.k 0 / 16 = omega arith in
     let twice = written_more target out _ (l.k * 2 + 1) _ (omega arith) size once (sym (second ∙ high ∙ small)) in
     let next : l.k * 2 + 1 + 1 ≡ (l.k + 1) * 2 = omega arith in (
-      omega arith,
       simp length-set (omega arith),
       twice ∙ ap (λ (n : ℕ). take n target ++ drop n out) next,
     )
@@ -45,4 +38,4 @@ returns c =
     let out = c.args.out.now in
     let size = length-unpack (length out) bytes in
     let room = c.requires in
-    l.invariant.2 ∙ written_all (unpack (length out) bytes) out (l.k * 2) size (omega arith)
+    l.invariant.1 ∙ written_all (unpack (length out) bytes) out (l.k * 2) size (omega arith)

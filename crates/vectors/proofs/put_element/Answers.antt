@@ -3,17 +3,13 @@
 use native.Mathlib.Omega.{arith}
 use Rattle.vectors.proofs.Laying.{low_put, high_put}
 use Rattle.vectors.proofs.put_element.Goals as goal
-
-pub overflow_mul-bytes : goal.overflow_mul-bytes
-overflow_mul-bytes c = omega arith
-
-pub overflow_add-bytes : goal.overflow_add-bytes
-overflow_add-bytes c = omega arith
-
-pub returns-then-j-eq0 : goal.returns-then-j-eq0
-returns-then-j-eq0 c =
-    low_put c.args.x c.args.j c.args.bytes.now c.if-j-eq0.true c.requires (omega arith)
+use Rattle.vectors.proofs.put_element.Goals.{then-j-eq0, else-j-eq0}
 
 pub returns : goal.returns
 returns c =
-    high_put c.args.x c.args.j c.args.bytes.now c.if-j-eq0.false c.requires (omega arith)
+    let bytes = c.args.bytes.now in
+    let j = c.args.j in
+    elim c.if-j-eq0.branch [
+      | then-j-eq0 w ↦ rw w.bytes-is (low_put c.args.x j bytes w.if-j-eq0.true c.requires (omega arith))
+      | else-j-eq0 w ↦ rw w.bytes-is (high_put c.args.x j bytes w.if-j-eq0.false c.requires (omega arith))
+    ]

@@ -7,12 +7,6 @@ use Rattle.field.specs.Packing.{nib}
 use Rattle.vectors.proofs.Elements.{read_more}
 use Rattle.vectors.proofs.read_first.Goals as goal
 
-pub returns-then-at-eq0 : goal.returns-then-at-eq0
-returns-then-at-eq0 c = (omega arith, λ j h. omega arith)
-
-pub returns-then-out-eq0 : goal.returns-then-out-eq0
-returns-then-out-eq0 c = (omega arith, λ j h. omega arith)
-
 pub returns : goal.returns
 returns c =
     let here : c.args.at ≡ c.args.at + 0 = omega arith in

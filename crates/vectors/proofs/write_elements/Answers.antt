@@ -5,12 +5,12 @@ use Rattle.vectors.proofs.Laying.{laid_none, laid_more, laid_all}
 use Rattle.vectors.proofs.write_elements.Goals as goal
 
 pub loop-i-init : goal.loop-i-init
-loop-i-init c = (omega arith, laid_none _ _ _ (λ i. omega (arith, c.type_inv.bytes i)))
+loop-i-init c = laid_none _ _ _ (λ i. omega (arith, c.type_inv.bytes i))
 
 pub loop-i-preserved : goal.loop-i-preserved
 loop-i-preserved c =
     let l = c.loop-i in
-    (omega arith, laid_more l.i _ _ _ l.bytes _ l.invariant.1 c.put_element.ensures)
+    laid_more l.i _ _ _ l.bytes _ l.invariant c.put_element.ensures
 
 pub returns : goal.returns
-returns c = laid_all _ _ _ _ c.loop-i.i c.loop-i.invariant.1 (omega arith)
+returns c = laid_all _ _ _ _ c.loop-i.i c.loop-i.invariant (omega arith)

@@ -1,7 +1,8 @@
 -- `verifying::expand` meets its contract: the circuit at the start of work, the challenges at its end, and the hidden parties.
 -- Assumes nothing.
 use mathlib.Core.Path.{refl, ◌∙◌}
-use Prim.Native.Nat.{◌/◌}
+use Prim.Native.Nat.{ℕ, ◌/◌}
+use lib.ListN.{length-take}
 use native.Mathlib.Omega.{arith}
 use Rattle.sets.specs.Sets.{S}
 use Rattle.biscuit.proofs.Room.{mapped}
@@ -11,29 +12,18 @@ use Rattle.verifying.proofs.expand.Goals as goal
 
 pub slice_bounds-tape_bytes-end : goal.slice_bounds-tape_bytes-end
 unfolding S
-slice_bounds-tape_bytes-end c = let h = seed_fits c.args.p c.requires.0 in omega arith
-
-pub slice_bounds-tape_bytes-end-2 : goal.slice_bounds-tape_bytes-end-2
-slice_bounds-tape_bytes-end-2 c =
-    let m = mapped c.args.p in let l = c.layout_of-layout.ensures in omega arith
+slice_bounds-tape_bytes-end c = let h = seed_fits c.args.p c.requires.0 in omega (arith, length-take {A = ℕ})
 
 pub slice_bounds-tape_bytes-end-3 : goal.slice_bounds-tape_bytes-end-3
+slice_bounds-tape_bytes-end-3 c = let m = mapped c.args.p in omega (arith, length-take {A = ℕ})
+
+pub slice_bounds-tape_bytes-end-4 : goal.slice_bounds-tape_bytes-end-4
 unfolding S
-slice_bounds-tape_bytes-end-3 c =
-    let h = head_fits c.args.p c.requires.0 in omega arith
+slice_bounds-tape_bytes-end-4 c = let h = head_fits c.args.p c.requires.0 in omega arith
 
-pub slice_bounds-tape_bytes-count-4 : goal.slice_bounds-tape_bytes-count-4
-slice_bounds-tape_bytes-count-4 c =
-    let m = mapped c.args.p in let l = c.layout_of-layout.ensures in omega arith
-
-pub slice_bounds-tape_bytes-start-4 : goal.slice_bounds-tape_bytes-start-4
-slice_bounds-tape_bytes-start-4 c =
-    let m = mapped c.args.p in let l = c.layout_of-layout.ensures in omega arith
-
-pub slice_bounds-tape_bytes-end-5 : goal.slice_bounds-tape_bytes-end-5
+pub slice_bounds-tape_bytes-end-6 : goal.slice_bounds-tape_bytes-end-6
 unfolding S
-slice_bounds-tape_bytes-end-5 c =
-    let h = head_fits c.args.p c.requires.0 in omega arith
+slice_bounds-tape_bytes-end-6 c = let h = head_fits c.args.p c.requires.0 in omega arith
 
 pub returns : goal.returns
 unfolding S

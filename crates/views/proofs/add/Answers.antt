@@ -2,32 +2,19 @@
 -- Assumes nothing.
 use mathlib.Core.Path.{◌∙◌}
 use native.Mathlib.Omega.{arith}
-use lib.ListN.{length-set}
 use Rattle.field.specs.Vectors.{◌⊕◌}
 use Rattle.memory.proofs.Xors.{written_all}
 use Rattle.views.proofs.Entries.{length-sum, sum-entry}
 use Rattle.views.proofs.add.Goals as goal
 
-pub bounds-more-i : goal.bounds-more-i
-bounds-more-i c = omega arith
-
-pub overflow_add-i : goal.overflow_add-i
-overflow_add-i c = omega arith
-
-pub loop-i-smaller : goal.loop-i-smaller
-loop-i-smaller c = omega arith
-
 pub loop-i-preserved : goal.loop-i-preserved
 loop-i-preserved c =
     let l = c.loop-i in
-    let a = c.args in (
-      omega arith,
-      simp length-set (omega arith),
-      sum-entry a.more.now a.sums.now l.sums l.i (omega arith) (omega arith) l.invariant.2,
-    )
+    let a = c.args in
+    sum-entry a.more.now a.sums.now l.sums l.i (omega arith) (omega arith) l.invariant
 
 pub returns : goal.returns
 returns c =
     let l = c.loop-i in
     let a = c.args in
-    l.invariant.2 ∙ written_all (a.sums.now ⊕ a.more.now) a.sums.now l.i (length-sum a.sums.now a.more.now (omega arith)) (omega arith)
+    l.invariant ∙ written_all (a.sums.now ⊕ a.more.now) a.sums.now l.i (length-sum a.sums.now a.more.now (omega arith)) (omega arith)

@@ -2,14 +2,10 @@
 -- Assumes nothing.
 use mathlib.Core.Path.{◌≡◌}
 use mathlib.Core.List.{◌++◌}
-use Prim.Native.Nat.{◌-◌, ◌≤◌}
-use lib.ListN.{length, take, drop}
+use lib.ListN.{take, drop}
 use Rattle.field.specs.Vectors.{◌⊕◌}
 use Rattle.views.proofs.add.Given as goal
 
 abbrev pub invariant-loop-i : goal.invariant-loop-i
 invariant-loop-i l =
-    (l.i ≤ length l.initial.sums) × (length l.sums ≡ length l.initial.sums) × (l.sums ≡ take l.i (l.initial.sums ⊕ l.more) ++ drop l.i l.initial.sums)
-
-abbrev pub decreases-loop-i : goal.decreases-loop-i
-decreases-loop-i l = length l.initial.sums - l.i
+    (l.sums ≡ take l.i (l.initial.sums ⊕ l.more) ++ drop l.i l.initial.sums)

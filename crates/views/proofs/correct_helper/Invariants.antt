@@ -2,7 +2,6 @@
 -- Assumes nothing.
 use mathlib.Core.Path.{◌≡◌}
 use mathlib.Core.List.{◌++◌}
-use Prim.Native.Nat.{◌-◌, ◌≤◌}
 use lib.ListN.{length, take, drop}
 use Rattle.field.specs.Packing.{unpack}
 use Rattle.field.specs.Vectors.{◌⊕◌, ◌⊙◌}
@@ -10,7 +9,4 @@ use Rattle.views.proofs.correct_helper.Given as goal
 
 abbrev pub invariant-loop-k : goal.invariant-loop-k
 invariant-loop-k l =
-    (l.k ≤ length l.initial.dc) × (length l.dc ≡ length l.initial.dc) × (l.dc ≡ take l.k (l.y ⊙ unpack (length l.y) (drop l.mask l.sums) ⊕ unpack (length l.y) (drop l.helper l.sums)) ++ drop l.k l.initial.dc)
-
-abbrev pub decreases-loop-k : goal.decreases-loop-k
-decreases-loop-k l = length l.initial.dc - l.k
+    (l.dc ≡ take l.k (l.y ⊙ unpack (length l.y) (drop l.mask l.sums) ⊕ unpack (length l.y) (drop l.helper l.sums)) ++ drop l.k l.initial.dc)

@@ -2,14 +2,10 @@
 -- Assumes nothing.
 use mathlib.Core.Path.{◌≡◌}
 use mathlib.Core.List.{◌++◌}
-use Prim.Native.Nat.{◌-◌, ◌≤◌}
 use lib.ListN.{length, take, drop}
 use Rattle.views.specs.Views.{correction_s}
 use Rattle.views.proofs.correct_secret.Given as goal
 
 abbrev pub invariant-loop-k : goal.invariant-loop-k
 invariant-loop-k l =
-    (l.k ≤ length l.initial.ds) × (length l.ds ≡ length l.initial.ds) × (l.ds ≡ take l.k (correction_s (length l.s) l.s l.sums) ++ drop l.k l.initial.ds)
-
-abbrev pub decreases-loop-k : goal.decreases-loop-k
-decreases-loop-k l = length l.initial.ds - l.k
+    (l.ds ≡ take l.k (correction_s (length l.s) l.s l.sums) ++ drop l.k l.initial.ds)

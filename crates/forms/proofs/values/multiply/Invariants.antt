@@ -2,13 +2,9 @@
 -- Assumes nothing.
 use mathlib.Core.Path.{◌≡◌}
 use mathlib.Core.List.{◌++◌}
-use Prim.Native.Nat.{◌≤◌, ◌-◌}
-use lib.ListN.{length, take, drop}
+use lib.ListN.{take, drop}
 use Rattle.field.specs.Vectors.{◌⊙◌}
 use Rattle.forms.proofs.values.multiply.Given as goal
 
 abbrev pub invariant-loop-k : goal.invariant-loop-k
-invariant-loop-k l = (l.k ≤ length l.initial.out) × (length l.out ≡ length l.initial.out) × (l.out ≡ take l.k (l.initial.out ⊙ l.y) ++ drop l.k l.initial.out)
-
-abbrev pub decreases-loop-k : goal.decreases-loop-k
-decreases-loop-k l = length l.initial.out - l.k
+invariant-loop-k l = l.out ≡ take l.k (l.initial.out ⊙ l.y) ++ drop l.k l.initial.out

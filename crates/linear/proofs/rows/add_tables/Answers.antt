@@ -1,62 +1,70 @@
--- `linear::rows::add_tables` meets its contract. The invariant: the first `at` bytes of each row are added.
--- Assumes nothing.
-use mathlib.Core.Path.{◌≡◌, refl, ap, subst, ◌∙◌}
-use Prim.Native.Nat.{ℕ, ◌+◌, ◌*◌}
+-- `linear::rows::add_tables` meets its contract. The invariant: the bytes of the first blocks of each row are added. Assumes nothing.
+use mathlib.Core.Path.{◌≡◌, refl, sym, ap, subst}
+use mathlib.Core.List.{List}
+use Prim.Native.Nat.{ℕ, ◌+◌, ◌-◌, ◌*◌, ◌≤◌, ◌<◌}
+use native.Mathlib.Nat.{zero-add}
 use native.Mathlib.Omega.{arith}
+use Rattle.std.proofs.Common.{min}
+use Rattle.std.specs.Int.{div_ceil}
+use Rattle.std.proofs.lemmas.Grind.{div_ceil_times}
 use lib.ListN.{length}
+use Rattle.memory.proofs.Lists.{room}
+use Rattle.linear.specs.Word.{View}
 use Rattle.linear.specs.Rows.{RowsAdded}
-use Rattle.linear.proofs.Added.{rows_none, rows_then}
+use Rattle.linear.proofs.Added.{rows_none, rows_on}
 use Rattle.linear.proofs.rows.add_tables.Goals as goal
 
-pub loop-at-init : goal.loop-at-init
-loop-at-init c =
-    let a = c.args in
-    let n = a.words.now in
-    let b = a.circuit.now in (
-      omega arith,
-      refl,
-      refl,
-      refl,
-      refl,
-      rows_none b a.first a.width n 0 a.x.now,
-      rows_none b (a.first + a.size) a.width n 0 a.y.now,
-      rows_none b (a.first + (a.size + a.size)) a.width n 0 a.z.now,
-    )
-
-pub add_block-requires : goal.add_block-requires
-add_block-requires c =
-    let l = c.loop-at in
-    let d = c.lesser-count.ensures in
-    let t = c.loop-at-test.true in
-    let e : length l.x * c.args.width ≡ length c.args.x.now * c.args.width = ap (λ (n : ℕ). n * c.args.width) l.invariant.2 in
+-- a block begins within the row
+reached : (width B block blocks : ℕ) → 0 < B → blocks ≡ div_ceil width B → block < blocks → block * B ≤ width
+reached width B block blocks some is inside =
+    let e = ap (λ (k : ℕ). k * B) is in
+    let ends = div_ceil_times width B some in
+    let r = room block blocks B inside in
     omega arith
 
-pub loop-at-preserved : goal.loop-at-preserved
-loop-at-preserved c =
-    let a = c.args in
-    let n = a.words.now in
-    let b = a.circuit.now in
-    let l = c.loop-at in
-    let t = c.loop-at-test.true in
-    let d = c.lesser-count.result in
-    let e = c.lesser-count.ensures in
-    let k = c.add_block in (
-      omega arith,
-      k.auto.pairs ∙ l.invariant.1,
-      k.auto.x ∙ l.invariant.2,
-      k.auto.y ∙ l.invariant.3,
-      k.auto.z ∙ l.invariant.4,
-      rows_then b a.first (a.first + l.at) l.at d a.width n a.x.now l.x k.new.x (omega arith) l.invariant.2 l.invariant.5 k.ensures.0,
-      rows_then b (a.first + a.size) (a.first + l.at + a.size) l.at d a.width n a.y.now l.y k.new.y (omega arith) l.invariant.3 l.invariant.6 k.ensures.1,
-      rows_then b (a.first + (a.size + a.size)) (a.first + l.at + (a.size + a.size)) l.at d a.width n a.z.now l.z k.new.z (omega arith) l.invariant.4 l.invariant.7 k.ensures.2,
-    )
+-- the first blocks, and one more
+module _ {W : Type 0} (v : View W) (t : List ℕ) (w width B block count : ℕ) (s old mid new : List W)
+    (begins : block * B ≤ width) (wide : count ≡ min B (width - block * B)) (same : length mid ≡ length old) where
+  next : RowsAdded v t 0 w s 0 (min (block * B) width * 2) old mid → RowsAdded v t (block * B) w s (block * B * 2) (count * 2) mid new
+      → RowsAdded v t 0 w s 0 (min ((block + 1) * B) width * 2) old new
+  next done more =
+      let at : min (block * B) width ≡ block * B = omega arith in
+      let end : block * B + count ≡ min ((block + 1) * B) width = omega arith in
+      subst (λ (k : ℕ). RowsAdded v t 0 w s 0 (k * 2) old new) end
+      (rows_on v t 0 (block * B) (block * B) count w s 0 old mid new (sym (zero-add (block * B))) same
+      (subst (λ (k : ℕ). RowsAdded v t 0 w s 0 (k * 2) old mid) at done)
+      (subst (λ (k : ℕ). RowsAdded v t (block * B) w s k (count * 2) mid new) (sym (zero-add (block * B * 2))) more))
 
-pub returns : goal.returns
-returns c =
-    let l = c.loop-at in
-    let e : l.at ≡ c.args.width = omega arith in
-    let n = c.args.words.now in (
-      subst (λ (k : ℕ). RowsAdded c.args.circuit.now c.args.first c.args.width n 0 (k * 2) c.args.x.now l.x) e l.invariant.5,
-      subst (λ (k : ℕ). RowsAdded c.args.circuit.now (c.args.first + c.args.size) c.args.width n 0 (k * 2) c.args.y.now l.y) e l.invariant.6,
-      subst (λ (k : ℕ). RowsAdded c.args.circuit.now (c.args.first + (c.args.size + c.args.size)) c.args.width n 0 (k * 2) c.args.z.now l.z) e l.invariant.7,
-    )
+pub loop-block-init : goal.loop-block-init
+loop-block-init g c =
+    let v = g.W.Word.view in
+    let t = c.args.tables.now in
+    let s = c.args.words.now in
+    let e : 0 ≡ min (0 * g.row.B) t.first.width * 2 = omega arith in
+    record {
+      wide = refl;
+      first = subst (λ (k : ℕ). RowsAdded v t.first.bytes.now 0 t.first.width s 0 k c.args.x.now c.args.x.now) e (rows_none v t.first.bytes.now 0 t.first.width s 0 c.args.x.now);
+      second = subst (λ (k : ℕ). RowsAdded v t.second.bytes.now 0 t.second.width s 0 k c.args.y.now c.args.y.now) e (rows_none v t.second.bytes.now 0 t.second.width s 0 c.args.y.now);
+      third = subst (λ (k : ℕ). RowsAdded v t.third.bytes.now 0 t.third.width s 0 k c.args.z.now c.args.z.now) e (rows_none v t.third.bytes.now 0 t.third.width s 0 c.args.z.now);
+    }
+
+pub loop-block-preserved : goal.loop-block-preserved
+loop-block-preserved g c =
+    let v = g.W.Word.view in
+    let B = g.row.B in
+    let t = c.args.tables.now in
+    let s = c.args.words.now in
+    let l = c.loop-block in
+    let n = c.min-count.result in
+    let i = l.invariant in
+    let pairs = c.fill.ensures in
+    let h = reached t.first.width B l.block c.div_ceil-block-end.result c.requires.3 c.div_ceil-block-end.ensures c.loop-block-test.true in
+    record {
+      wide = refl;
+      first = next v t.first.bytes.now t.first.width t.first.width B l.block n s c.args.x.now l.x c.add_rows.new.out h c.min-count.ensures l.auto.x i.first
+          (c.add_rows.ensures s (l.block * B * 2) pairs);
+      second = next v t.second.bytes.now t.second.width t.first.width B l.block n s c.args.y.now l.y c.add_rows-in-loop-block.new.out h c.min-count.ensures l.auto.y i.second
+          (c.add_rows-in-loop-block.ensures s (l.block * B * 2) pairs);
+      third = next v t.third.bytes.now t.third.width t.first.width B l.block n s c.args.z.now l.z c.add_rows-in-loop-block-2.new.out h c.min-count.ensures l.auto.z i.third
+          (c.add_rows-in-loop-block-2.ensures s (l.block * B * 2) pairs);
+    }

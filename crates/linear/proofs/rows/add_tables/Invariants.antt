@@ -1,16 +1,16 @@
--- `linear::rows::add_tables` meets its contract. The invariant: the first `at` bytes of each row are added.
--- Assumes nothing.
+-- `linear::rows::add_tables` meets its contract. The invariant: the bytes of the first blocks of each row are added. Assumes nothing.
 use mathlib.Core.Path.{◌≡◌}
-use Prim.Native.Nat.{◌+◌, ◌-◌, ◌*◌, ◌≤◌}
-use lib.ListN.{length}
+use Prim.Native.Nat.{◌*◌}
+use Rattle.std.proofs.Common.{min}
 use Rattle.linear.specs.Rows.{RowsAdded}
 use Rattle.linear.proofs.rows.add_tables.Given as goal
 
-abbrev pub invariant-loop-at : goal.invariant-loop-at
-invariant-loop-at l =
-    (l.at ≤ l.width) × (length l.pairs ≡ 2048) × (length l.x ≡ length l.initial.x) × (length l.y ≡ length l.initial.y) × (length l.z ≡ length l.initial.z)
-    × (RowsAdded l.circuit l.first l.width l.words 0 (l.at * 2) l.initial.x l.x) × (RowsAdded l.circuit (l.first + l.size) l.width l.words 0 (l.at * 2) l.initial.y l.y)
-    × (RowsAdded l.circuit (l.first + (l.size + l.size)) l.width l.words 0 (l.at * 2) l.initial.z l.z)
-
-abbrev pub decreases-loop-at : goal.decreases-loop-at
-decreases-loop-at l = l.width - l.at
+abbrev pub invariant-loop-block : goal.invariant-loop-block
+invariant-loop-block g l =
+    let v = g.W.Word.view in
+    let done = min (l.block * g.row.B) l.tables.first.width in record {
+      wide : l.width ≡ l.tables.first.width;
+      first : RowsAdded v l.tables.first.bytes.now 0 l.tables.first.width l.words 0 (done * 2) l.initial.x l.x;
+      second : RowsAdded v l.tables.second.bytes.now 0 l.tables.second.width l.words 0 (done * 2) l.initial.y l.y;
+      third : RowsAdded v l.tables.third.bytes.now 0 l.tables.third.width l.words 0 (done * 2) l.initial.z l.z;
+    }

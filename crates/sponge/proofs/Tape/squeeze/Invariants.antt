@@ -9,7 +9,7 @@ use Rattle.sponge.proofs.Tape.squeeze.Given as goal
 
 abbrev pub invariant-loop-i : goal.invariant-loop-i
 invariant-loop-i l =
-    (l.i ≤ length l.out) × (length l.out ≡ length l.initial.out) × (take l.i l.out ≡ given (tape l.initial.lanes l.initial.at) l.i) × (tape l.lanes l.at ≡ moved (tape l.initial.lanes l.initial.at) l.i)
+    (l.i ≤ length l.out) × (take l.i l.out ≡ given (tape l.initial.lanes l.initial.at) l.i) × (tape l.lanes l.at ≡ moved (tape l.initial.lanes l.initial.at) l.i)
 
 abbrev pub decreases-loop-i : goal.decreases-loop-i
 decreases-loop-i l = length l.initial.out - l.i

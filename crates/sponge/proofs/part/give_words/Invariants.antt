@@ -1,14 +1,10 @@
--- `sponge::part::give_words` meets its contract. The loop's invariant: the first j words of `out` are given, and `out` keeps its length. A turn is `given_words_turn`.
--- The measure is how many words are left.
+-- `sponge::part::give_words` meets its contract. The loop's invariant: the first j words of `out` are given. A turn is `given_words_turn`.
 -- Assumes nothing.
 use mathlib.Core.Path.{◌≡◌}
-use Prim.Native.Nat.{◌≤◌, ◌-◌, ◌*◌}
-use lib.ListN.{length, take}
+use Prim.Native.Nat.{◌*◌}
+use lib.ListN.{take}
 use Rattle.sponge.specs.Steps.{bytes_from}
 use Rattle.sponge.proofs.part.give_words.Given as goal
 
 abbrev pub invariant-loop-j : goal.invariant-loop-j
-invariant-loop-j l = (l.j ≤ l.n) × (length l.out ≡ length l.initial.out) × (take (8 * l.j) l.out ≡ bytes_from l.lanes (8 * l.k) (8 * l.j))
-
-abbrev pub decreases-loop-j : goal.decreases-loop-j
-decreases-loop-j l = l.n - l.j
+invariant-loop-j l = take (8 * l.j) l.out ≡ bytes_from l.lanes (8 * l.k) (8 * l.j)

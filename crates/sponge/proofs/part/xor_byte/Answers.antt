@@ -14,4 +14,4 @@ unfolding xor_byte
 returns c =
     let a = c.args in
     ap (λ (n : ℕ). set a.lanes.now (a.at / 8) (bit_xor (get_or a.lanes.now (a.at / 8) 0) n))
-    (shifted_byte _ a.b (a.at % 8) c.wide.ensures.0 c.ranges.b.fits (omega arith))
+    (shifted_byte _ a.b (a.at % 8) c.from.ensures c.ranges.b.fits (omega arith))

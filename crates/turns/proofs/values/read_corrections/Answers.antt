@@ -1,53 +1,13 @@
 -- `turns::values::read_corrections` meets its contract: Δs and Δc of a repetition lie side by side.
 -- Assumes nothing.
 use mathlib.Core.Path.{ap, ◌∙◌}
-use Prim.Native.Nat.{ℕ, ◌+◌}
-use native.Mathlib.Omega.{arith}
-use lib.ListN.{drop}
 use Rattle.vectors.specs.Elements.{elements_at}
-use Rattle.biscuit.proofs.Repeated.{among}
-use Rattle.turns.proofs.Sizes.{packing_fits, corrections_small, alphas_small}
-use Rattle.turns.proofs.Reading.{corrections_read, lent-rest}
+use Rattle.turns.proofs.Reading.{corrections_read}
 use Rattle.turns.proofs.values.read_corrections.Goals as goal
-
-pub slice_bounds-read_elements-count : goal.slice_bounds-read_elements-count
-slice_bounds-read_elements-count c =
-    let h = packing_fits c.args.p c.requires.0 in
-    let e = c.packing_at-a.ensures in
-    omega arith
-
-pub slice_bounds-read_elements-start : goal.slice_bounds-read_elements-start
-slice_bounds-read_elements-start c =
-    let h = packing_fits c.args.p c.requires.0 in
-    let e = c.packing_at-a.ensures in
-    omega arith
-
-pub overflow_mul-e : goal.overflow_mul-e
-overflow_mul-e c =
-    let p = c.args.p in
-    let a = corrections_small p c.requires.0 in
-    let b = alphas_small p c.requires.0 in
-    let d = among c.args.e p.tau (p.n + p.m) c.requires.1 c.requires.2 in
-    let g = among c.args.e p.tau p.m c.requires.1 c.requires.2 in
-    let n = c.requires.0.variables in
-    let m = c.requires.0.equations in
-    omega arith
-
-pub read_elements-requires : goal.read_elements-requires
-read_elements-requires c =
-    let p = c.args.p in
-    let a = corrections_small p c.requires.0 in
-    let b = alphas_small p c.requires.0 in
-    let d = among c.args.e p.tau (p.n + p.m) c.requires.1 c.requires.2 in
-    let g = among c.args.e p.tau p.m c.requires.1 c.requires.2 in
-    let n = c.requires.0.variables in
-    let m = c.requires.0.equations in
-    (omega arith, omega arith)
 
 pub returns : goal.returns
 returns c =
-    let p = c.args.p in
-    let x = c.args.signature.now in
+    let r = c.args.repetition in
     c.read_elements.ensures
-    ∙ ap (elements_at _ _) c.requires.4
-    ∙ corrections_read p x c.args.e c.requires.1 c.requires.2 _ (lent-rest x _ ∙ ap (λ (k : ℕ). drop k x) c.packing_at-a.ensures)
+    ∙ ap (elements_at _ _) c.requires
+    ∙ corrections_read r.claim.p r.claim.signature.now r.e r.from_one r.within _ c.packing.ensures

@@ -1,7 +1,0 @@
--- `envelope::fields::header_bytes` meets its contract: each byte is the byte of the header's fields. Assumes nothing.
-use mathlib.Core.Path.{sym}
-use Rattle.envelope.proofs.Heading.{header-bytes}
-use Rattle.envelope.proofs.fields.header_bytes.Goals as goal
-
-pub returns : goal.returns
-returns c = let h = c.args.h in sym (header-bytes h.version h.set h.length)

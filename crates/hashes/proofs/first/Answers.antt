@@ -1,7 +1,0 @@
--- `hashes::first` meets its contract: a byte and then the salt are absorbed as one list.
--- Assumes nothing.
-use Rattle.hashes.proofs.Laws.{absorbed_after_byte}
-use Rattle.hashes.proofs.first.Goals as goal
-
-pub returns : goal.returns
-returns c = absorbed_after_byte _ _ _ _ _ c.new.ensures c.absorb-s.ensures c.absorb.ensures

@@ -1,0 +1,33 @@
+-- `turns::first::commitment` meets its contract: the hidden commitment stands behind the path.
+-- Assumes nothing.
+use mathlib.Core.Path.{ap, ◌∙◌}
+use Prim.Native.Nat.{ℕ, ◌+◌, ◌*◌}
+use native.Mathlib.Omega.{arith}
+use lib.ListN.{take, drop}
+use Rattle.memory.proofs.Xors.{part-sized}
+use Rattle.sets.specs.Sets.{S}
+use Rattle.biscuit.specs.Signature.{opening_of}
+use Rattle.turns.proofs.Sizes.{commitment_fits}
+use Rattle.turns.proofs.first.commitment.Goals as goal
+
+pub overflow_add-at : goal.overflow_add-at
+unfolding S
+overflow_add-at c =
+    let f = commitment_fits c.args.repetition _ c.shown_at.ensures in omega arith
+
+pub overflow_add-result : goal.overflow_add-result
+unfolding S
+overflow_add-result c =
+    let f = commitment_fits c.args.repetition _ c.shown_at.ensures in omega arith
+
+pub slice_bounds-result-end : goal.slice_bounds-result-end
+unfolding S
+slice_bounds-result-end c =
+    let f = commitment_fits c.args.repetition _ c.shown_at.ensures in omega arith
+
+pub returns : goal.returns
+unfolding S opening_of
+returns c =
+    let r = c.args.repetition in
+    part-sized r.claim.signature.now (c.shown_at.result + r.claim.p.l * S r.claim.p) (2 * S r.claim.p)
+    ∙ ap (λ (k : ℕ). take (2 * S r.claim.p) (drop (k + r.claim.p.l * S r.claim.p) r.claim.signature.now)) c.shown_at.ensures
