@@ -142,5 +142,5 @@ fn clear_work(work: &mut [u8])
     ensures { work.new ≡ cleared work.old }
 {
     let n = refusals::work_len();
-    work[0..n].fill(0);
+    memory::clear(&mut work[0..n]);
 }

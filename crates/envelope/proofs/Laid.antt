@@ -8,9 +8,9 @@ use native.Mathlib.Omega.{arith}
 use lib.ListN.{length, get_or, take, drop, length-append, length-drop, take-append-drop}
 use lib.Seq.{take_all, drop-drop}
 use Rattle.memory.specs.Lists.{over, put}
-use Rattle.memory.proofs.Parts.{put_next, over-put, back, lent-put}
-use Rattle.memory.proofs.Sections.{put-nil}
-use Rattle.envelope.specs.Envelope.{header, header_bytes, envelope_of}
+use Rattle.memory.proofs.Parts.{length-put, put_next, over-put, back}
+use Rattle.memory.proofs.Sections.{put-nil, copied_part}
+use Rattle.envelope.specs.Envelope.{header, header_bytes, envelope_of, between}
 use Rattle.envelope.proofs.Heading.{header-bytes}
 
 pub length-header : (version set length : ℕ) → lib.ListN.length (header_bytes (header version set length)) ≡ 3
@@ -23,19 +23,22 @@ length-envelope set pk sig msg = let h = length-header 1 set (length msg) in sim
 -- ---- a part of an output that is lent, copied over, and comes back
 
 -- `laid` stands at the start of y, which was x; one part more is copied behind it
-laid_next : (x y laid part l : List ℕ) (a e : ℕ) → y ≡ put x 0 laid → length laid ≡ a → a + length part ≡ e → e ≤ length x → l ≡ part
+laid_next : (x y laid part l : List ℕ) (a e : ℕ) → y ≡ put x 0 laid → length laid ≡ a → a + length part ≡ e → e ≤ length x → l ≡ over part (between a e y)
     → back y a e l ≡ put x 0 (laid ++ part)
 laid_next x y laid part l a e p s t h copied =
     let size : 0 + length laid ≤ length x = omega arith in
-    ap (back y a e) copied
-    ∙ lent-put y a e part (omega arith)
+    let long : length y ≡ length x = ap length p ∙ length-put x 0 laid size in
+    copied_part y a e part l (omega arith) (omega arith) (omega arith) copied
     ∙ ap₂ (λ (z : List ℕ) (k : ℕ). put z k part) p (sym s ∙ sym (zero-add (length laid)))
     ∙ put_next x 0 laid size part
 
 -- header, key, signature and message, each copied behind the one before
 module _ (set : ℕ) (x head pk sig msg l₁ l₂ l₃ l₄ : List ℕ) (at behind end : ℕ) where
   pub four_parts : head ≡ header_bytes (header 1 set (length msg)) → 3 + length pk ≡ at → at + length sig ≡ behind → behind + length msg ≡ end → end ≤ length x
-      → l₁ ≡ head → l₂ ≡ pk → l₃ ≡ sig → l₄ ≡ msg
+      → l₁ ≡ over head (between 0 3 x)
+      → l₂ ≡ over pk (between 3 at (back x 0 3 l₁))
+      → l₃ ≡ over sig (between at behind (back (back x 0 3 l₁) 3 at l₂))
+      → l₄ ≡ over msg (between behind end (back (back (back x 0 3 l₁) 3 at l₂) at behind l₃))
       → back (back (back (back x 0 3 l₁) 3 at l₂) at behind l₃) behind end l₄ ≡ over (envelope_of set pk sig msg) x
   unfolding envelope_of
   four_parts e f g i h a b c d =

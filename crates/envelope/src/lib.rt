@@ -58,10 +58,10 @@ pub fn write(
     let at = HEADER + public_key.len();
     let behind = at + signature.len();
     let end = behind + message.len();
-    envelope[0..HEADER].copy_from_slice(&first);
-    envelope[HEADER..at].copy_from_slice(public_key);
-    envelope[at..behind].copy_from_slice(signature);
-    envelope[behind..end].copy_from_slice(message);
+    memory::copy(&first, &mut envelope[0..HEADER]);
+    memory::copy(public_key, &mut envelope[HEADER..at]);
+    memory::copy(signature, &mut envelope[at..behind]);
+    memory::copy(message, &mut envelope[behind..end]);
     Ok(())
 }
 

@@ -31,7 +31,7 @@ pub fn product(a: u8, b: u8) -> u8
 pub fn pack_into(elements: &[u8], out: &mut [u8])
     ensures { out.new ≡ over (pack elements.now) out.old }
 {
-    let n = elements.len().div_ceil(2).min(out.len());
+    let n = memory::lesser(elements.len().div_ceil(2), out.len());
     for i in 0..n {
         out[i] = packed(elements, i);
     }

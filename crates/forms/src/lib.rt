@@ -34,7 +34,7 @@ pub fn hidden_party(bytes: &[u8], l: usize, e: usize) -> usize
     requires { (l ≤ 8) × (1 ≤ e) × (e ≤ length bytes.now) }
     ensures { result ≡ hidden_in l bytes.now e }
 {
-    let b = usize::from(bytes[e - 1]);
+    let b = memory::wide(bytes[e - 1]);
     b % (1 << l) + 1
 }
 
@@ -45,8 +45,8 @@ pub fn eval_circuit(circuit: &[u8], n: usize, m: usize, s: &[u8], y: &mut [u8], 
 {
     let products = Products::new();
     let size = table_len(n, m);
-    y.fill(0);
-    t.fill(0);
+    memory::clear(y);
+    memory::clear(t);
     values::add_affine(circuit, 0, s, &products, t);
     values::add_affine(circuit, size, s, &products, y);
     values::multiply(y, &products, t);

@@ -26,7 +26,7 @@ impl Products {
     pub fn of(&self, a: u8, b: u8) -> u8
         ensures { result ≡ mul a b }
     {
-        self.table[usize::from(a % 16) * 16 + usize::from(b % 16)]
+        self.table[memory::wide(a % 16) * 16 + memory::wide(b % 16)]
     }
 }
 

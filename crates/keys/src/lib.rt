@@ -49,8 +49,8 @@ pub fn make_keys(
     key_values(p, circuit_seed, secret_seed, &mut work[0..c], s, t, y);
     write_secret(circuit_seed, s, t, y, sk);
     write_public(circuit_seed, t, pk);
-    s.fill(0);
-    y.fill(0);
+    memory::clear(s);
+    memory::clear(y);
 }
 
 // The elements s, t and y of a secret key, an element to a byte.
@@ -78,8 +78,8 @@ pub fn consistent(p: Params, sk: &[u8], secret: &mut [u8], circuit: &mut [u8]) -
     forms::eval_circuit(circuit, n, m, &secret[0..n], y, t);
     let target = memory::equal(&secret[n..n + m], t);
     let second = memory::equal(&secret[n + m..n + m + m], y);
-    t.fill(0);
-    y.fill(0);
+    memory::clear(t);
+    memory::clear(y);
     target & second
 }
 
@@ -97,7 +97,7 @@ pub fn public_half(p: Params, sk: &[u8], pk: &mut [u8], work: &mut [u8]) -> bool
     if right {
         write_public(&sk[0..a], &secret[n..n + m], pk);
     }
-    secret.fill(0);
+    memory::clear(secret);
     right
 }
 
@@ -128,7 +128,7 @@ fn expand_secret(seed: &[u8], s: &mut [u8])
     let packed = &mut packed[0..s.len().div_ceil(2)];
     forms::tape_bytes(seed, packed);
     field::unpack_into(packed, s);
-    packed.fill(0);
+    memory::clear(packed);
 }
 
 // Algorithm 11, line 7: the bytes of a secret key.
@@ -137,8 +137,8 @@ fn write_secret(seed: &[u8], s: &[u8], t: &[u8], y: &[u8], sk: &mut [u8])
     ensures { sk.new ≡ seed.now ++ pack (s.now ++ (t.now ++ y.now)) }
 {
     let (first, rest) = sk.split_at_mut(seed.len());
-    first.copy_from_slice(seed);
-    rest.fill(0);
+    memory::copy(seed, first);
+    memory::clear(rest);
     vectors::write_elements(s, 0, rest);
     vectors::write_elements(t, s.len(), rest);
     vectors::write_elements(y, s.len() + t.len(), rest);
@@ -150,6 +150,6 @@ fn write_public(seed: &[u8], t: &[u8], pk: &mut [u8])
     ensures { pk.new ≡ seed.now ++ pack t.now }
 {
     let (first, rest) = pk.split_at_mut(seed.len());
-    first.copy_from_slice(seed);
+    memory::copy(seed, first);
     field::pack_into(t, rest);
 }

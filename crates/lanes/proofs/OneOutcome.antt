@@ -16,6 +16,7 @@ use Rattle.lanes.proofs.times as times
 use Rattle.lanes.proofs.multiples as multiples
 use Rattle.lanes.proofs.word_at as word_at
 use Rattle.lanes.proofs.put_word as put_word
+use Rattle.lanes.proofs.copy_words as copy-words
 
 -- words that agree in every lane are one list
 pub words_by_lanes : (x y : List ℕ) → length x ≡ length y → Below 64 x → Below 64 y
@@ -78,3 +79,6 @@ word_at_one_outcome κs a good asked o q x y =
 
 pub put_word_one_outcome : OneOutcome put_word.Kinds.ps put_word.Kinds.r put_word.Reads.Asked put_word.Reads.Learnt
 put_word_one_outcome κs a good asked o q x y = ap (λ (l : List ℕ). (tt, (l, (tt, (tt, tt))))) (x.promised ∙ sym y.promised)
+
+pub copy_words_one_outcome : OneOutcome copy-words.Kinds.ps copy-words.Kinds.r copy-words.Reads.Asked copy-words.Reads.Learnt
+copy_words_one_outcome κs a good asked o q x y = ap (λ (l : List ℕ). (tt, (tt, (l, tt)))) (x.promised ∙ sym y.promised)

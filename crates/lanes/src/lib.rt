@@ -4,7 +4,7 @@
 #![tactic(auto)]
 
 ghost use Rattle.std.specs.Prelude.{◌≡◌, ◌+◌, ◌≤◌, ◌<◌, length};
-ghost use Rattle.memory.specs.Lists.{put};
+ghost use Rattle.memory.specs.Lists.{over, put};
 ghost use Rattle.lanes.specs.Lanes.{Times, Multiples, WordAt, word_bytes};
 
 // Each lane times the element e.
@@ -72,4 +72,11 @@ pub fn put_word(bytes: &mut [u8], at: usize, w: u64)
     ensures { bytes.new ≡ put bytes.old at (word_bytes w) }
 {
     bytes[at..at + 8].copy_from_slice(&w.to_le_bytes());
+}
+
+// Writes `src` over the start of `dst`, as much of it as has room; the later words of `dst` are kept.
+pub fn copy_words(src: &[u64], dst: &mut [u64])
+    ensures { dst.new ≡ over src.now dst.old }
+{
+    memory::copy(src, dst);
 }

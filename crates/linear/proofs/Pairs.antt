@@ -102,12 +102,14 @@ module _ {W : Type 0} (v : View W) where
   -- ---- the sums of many pairs
 
   -- the sums of one pair of words more, as they are lent
-  pub pairs_lent : (s t ys : List W) (a c : ℕ) (low high : W) → PairsFrom v s a c t
-      → low ≡ get_or s (a + c * 2) v.zero → high ≡ get_or s (a + c * 2 + 1) v.zero → PairsOf v low high ys
+  pub pairs_lent : (s t ys : List W) (a c i j : ℕ) (low high : W) → PairsFrom v s a c t
+      → low ≡ get_or s i v.zero → high ≡ get_or s j v.zero → i ≡ a + c * 2 → j ≡ a + c * 2 + 1 → PairsOf v low high ys
       → length ys ≡ length (take (c * 256 + 256 - c * 256) (drop (c * 256) t)) → c * 256 + 256 ≤ length t
       → PairsFrom v s a (c + 1) (take (c * 256) t ++ (ys ++ drop (c * 256 + 256 - c * 256) (drop (c * 256) t)))
   unfolding PairsFrom PairsOf
-  pairs_lent s t ys a c low high done el eh next kept fits d b hd hb =
+  pairs_lent s t ys a c i j low high done first second ei ej next kept fits d b hd hb =
+      let el = first ∙ ap (λ (k : ℕ). get_or s k v.zero) ei in
+      let eh = second ∙ ap (λ (k : ℕ). get_or s k v.zero) ej in
       let k : ℕ = c * 256 + 256 - c * 256 in
       let new : List W = take (c * 256) t ++ (ys ++ drop k (drop (c * 256) t)) in
       elim (dec_lt d c) as (λ p. PairValue v (get_or s (a + d * 2) v.zero) (get_or s (a + d * 2 + 1) v.zero) b (get_or new (d * 256 + b) v.zero)) [

@@ -22,7 +22,7 @@ pub fn add_tables<W: Word, const B: usize>(
     let width = tables.first.width;
     for block in 0..width.div_ceil(B) {
         let at = block * B;
-        let count = B.min(width - at);
+        let count = memory::lesser(B, width - at);
         sums::fill(words, at * 2, count, sums);
         add_rows::<W, B>(tables.first, at, count, sums, x);
         add_rows::<W, B>(tables.second, at, count, sums, y);
@@ -68,7 +68,7 @@ fn add_row<W: Word>(word: W, row: &[u8], sums: &[W]) -> W
 {
     let mut sum = word;
     for (i, b) in row.iter().enumerate() {
-        sum = sum.plus(sums[i * 256 + usize::from(*b)]);
+        sum = sum.plus(sums[i * 256 + memory::wide(*b)]);
     }
     sum
 }

@@ -9,6 +9,7 @@ use native.Mathlib.Decide.{dec_lt}
 use native.Mathlib.Numerals.{add-one}
 use lib.ListN.{length, get_or, take, drop, set, length-append, length-take, length-drop, take-append-drop, drop_of_length-le, get_or-append}
 use lib.Seq.{take_at, drop_at, get_or-take, get_or-drop, take_all, drop-drop, length-take-le, set_split, drop-length, drop-cons, set_at, append_snoc, take-suc}
+use Rattle.std.proofs.lemmas.List.{get_or_default}
 use Rattle.memory.specs.Lists.{over, put}
 
 -- ---- `put`
@@ -162,13 +163,17 @@ three_parts l a e h =
 
 -- ---- a list copied entry by entry: one entry more, and the end
 
-pub copied_more : (src dst : List ℕ) (i : ℕ) → i < length src → i < length dst → set (take i src ++ drop i dst) i (get_or src i 0) ≡ take (i + 1) src ++ drop (i + 1) dst
-copied_more src dst i h k =
-    ap (λ (l : List ℕ). set (take i src ++ l) i (get_or src i 0)) (drop-cons dst i 0 k)
-    ∙ set_at (take i src) (get_or dst i 0) (drop (suc i) dst) (get_or src i 0) i (length-take-le i src (omega arith))
-    ∙ sym (append_snoc (take i src) (get_or src i 0) (drop (suc i) dst))
-    ∙ ap (λ (l : List ℕ). l ++ drop (suc i) dst) (sym (take-suc src i 0 h))
+pub copied_entry : {X : Type 0} (src dst now : List X) (i : ℕ) (d : X) → now ≡ take i src ++ drop i dst → d ≡ get_or src i d → i < length src → i < length dst
+    → set now i d ≡ take (i + 1) src ++ drop (i + 1) dst
+copied_entry src dst now i d e f h k =
+    ap₂ (λ x y. set x i y) (e ∙ ap (λ l. take i src ++ l) (drop-cons dst i d k)) f
+    ∙ set_at (take i src) (get_or dst i d) (drop (suc i) dst) (get_or src i d) i (length-take-le i src (omega arith))
+    ∙ sym (append_snoc (take i src) (get_or src i d) (drop (suc i) dst))
+    ∙ ap (λ l. l ++ drop (suc i) dst) (sym (take-suc src i d h))
     ∙ ap (λ (n : ℕ). take n src ++ drop n dst) (sym (add-one i))
+
+pub copied_more : (src dst : List ℕ) (i : ℕ) → i < length src → i < length dst → set (take i src ++ drop i dst) i (get_or src i 0) ≡ take (i + 1) src ++ drop (i + 1) dst
+copied_more src dst i h k = copied_entry src dst _ i (get_or src i 0) refl (get_or_default src i 0 (get_or src i 0) h) h k
 
 pub copied_all : {X : Type 0} (src dst : List X) (i : ℕ) → i ≡ min (length src) (length dst) → take i src ++ drop i dst ≡ over src dst
 unfolding over

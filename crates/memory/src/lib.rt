@@ -10,8 +10,10 @@ ghost use Rattle.memory.specs.Lists.{over, same};
 pub fn copy<T: Copy>(src: &[T], dst: &mut [T])
     ensures { dst.new ≡ over src.now dst.old }
 {
-    let n = src.len().min(dst.len());
-    dst[..n].copy_from_slice(&src[..n]);
+    let n = lesser(src.len(), dst.len());
+    for i in 0..n {
+        dst[i] = src[i];
+    }
 }
 
 // The lesser of two numbers.

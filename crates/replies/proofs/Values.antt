@@ -5,7 +5,10 @@ use Prim.Native.Nat.{ℕ, ◌+◌, ◌-◌, ◌*◌, ◌≤◌}
 use native.Mathlib.Omega.{arith}
 use lib.ListN.{length, take, drop, replicate, length-append, length-drop}
 use lib.Seq.{take_at, drop_at, take-append-le, drop-append-le, length-take-le}
+use Rattle.memory.specs.Lists.{over}
+use Rattle.memory.proofs.Stores.{over-whole}
 use Rattle.memory.proofs.Xors.{get_or_zeros}
+use Rattle.memory.proofs.Parts.{length-lent}
 use Rattle.field.specs.Packing.{Elements, unpack, packed_length}
 use Rattle.field.proofs.Packing.{length-unpack, unpack-elements}
 use Rattle.sets.specs.declared.Params.{Params}
@@ -75,6 +78,9 @@ module _ (P : Params) (e : ℕ) (secret packing challenges : List ℕ) (size : l
 -- ---- the four parts, written one after another
 
 -- t, as the code lends it
+copied_size : (P : Params) (secret : List ℕ) (a : ℕ) → length secret ≡ P.n + P.m + P.m → a ≡ P.n + P.m → length (take (a - P.n) (drop P.n secret)) ≡ P.m
+copied_size P secret a h e = length-lent secret P.n a (omega arith) (omega arith) ∙ (let q : a - P.n ≡ P.m = omega arith in q)
+
 copied_part : (P : Params) (secret : List ℕ) (a : ℕ) → a ≡ P.n + P.m → take (a - P.n) (drop P.n secret) ≡ take P.m (drop P.n secret)
 copied_part P secret a e = ap (λ (k : ℕ). take k (drop P.n secret)) (let q : a - P.n ≡ P.m = omega arith in q)
 
@@ -91,7 +97,7 @@ module _ (x y z w old v₁ v₂ v₃ v₄ : List ℕ) (a b c d : ℕ) (ab : a �
   pub filled_values : (P : Params) (e : ℕ) (secret packing challenge : List ℕ) → length secret ≡ P.n + P.m + P.m → a ≡ P.n + P.m → b - a ≡ P.m → c - b ≡ P.m → d - c ≡ P.m
       → x ≡ elements_at packing ((e - 1) * a) (length (take (a - 0) (drop 0 old)))
       → y ≡ unpack (length (take (b - a) (drop a v₁))) challenge
-      → z ≡ take (a - P.n) (drop P.n secret)
+      → z ≡ over (take (a - P.n) (drop P.n secret)) (take (c - b) (drop b v₂))
       → w ≡ replicate (length (take (d - c) (drop c v₃))) 0
       → v₄ ≡ elements_at packing ((e - 1) * (P.n + P.m)) (P.n + P.m) ++ (unpack P.m challenge ++ (t_in P secret ++ replicate P.m 0))
   unfolding t_in
@@ -101,5 +107,5 @@ module _ (x y z w old v₁ v₂ v₃ v₄ : List ℕ) (a b c d : ℕ) (ab : a �
       ∙ ap₂ (λ (u v : List ℕ). u ++ v) (ex ∙ ap (elements_at packing ((e - 1) * a)) s.first_is ∙ ap (λ (k : ℕ). elements_at packing ((e - 1) * k) k) ea)
       (ap₂ (λ (u v : List ℕ). u ++ v) (ey ∙ ap (λ (k : ℕ). unpack k challenge) (s.second_is ∙ eb))
       (ap₂ (λ (u v : List ℕ). u ++ v)
-      (ez ∙ copied_part P secret a ea)
+      (ez ∙ over-whole (take (a - P.n) (drop P.n secret)) (take (c - b) (drop b v₂)) (copied_size P secret a size ea ∙ sym (s.third_is ∙ ec)) ∙ copied_part P secret a ea)
       (ew ∙ ap (λ (k : ℕ). replicate k 0) (s.fourth_is ∙ ed))))

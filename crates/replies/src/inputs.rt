@@ -23,6 +23,6 @@ pub fn read_values(turn: Turn<'_>, packing: &[u8], work: &[u8], values: &mut [u8
     let at = map.challenges + (turn.e - 1) * width;
     vectors::read_elements(packing, (turn.e - 1) * a, &mut values[0..a]);
     field::unpack_into(&work[at..at + width], &mut values[a..b]);
-    values[b..c].copy_from_slice(&turn.basis.secret[p.n..a]);
-    values[c..c + p.m].fill(0);
+    memory::copy(&turn.basis.secret[p.n..a], &mut values[b..c]);
+    memory::clear(&mut values[c..c + p.m]);
 }

@@ -1,4 +1,4 @@
--- How `line_for` ended, from the numbers of reading and of verifying: with work enough the line is the clip's.
+-- How `genuine_header` ends, from the answers of reading and of verifying: with work enough the line is the clip's, and work is what the clip's number leaves.
 -- Assumes nothing.
 use mathlib.Core.Path.{◌≡◌, sym, ap, ◌∙◌}
 use mathlib.Core.List.{List}
@@ -6,10 +6,10 @@ use Prim.Native.Nat.{ℕ, ◌≤◌}
 use native.Mathlib.Omega.{arith}
 use lib.ListN.{length}
 use Rattle.std.proofs.lemmas.Bool.Decides.{nat_tests}
-use Rattle.refusals.specs.Refusals.{work_length, verify_sizes}
+use Rattle.refusals.specs.Refusals.{work_length, verify_sizes, work_after}
 use Rattle.refusals.proofs.Refusals.{right_verify, or_else_right, or_else_refused}
 use Rattle.envelope.specs.declared.Header.{Header}
-use Rattle.envelope.specs.Envelope.{header_of, read_number, key_bytes, signature_bytes, message_bytes}
+use Rattle.envelope.specs.Envelope.{header_of, header_number, read_number, key_bytes, signature_bytes, message_bytes}
 use Rattle.refusals.specs.declared.Refusal.{Refusal}
 use Rattle.refusals.specs.Refusals.{refusal_number}
 use Rattle.refusals.proofs.Numbers.{refusal_from_one}
@@ -26,6 +26,11 @@ said_genuine h number z = grind (arith, nat_tests)
 pub said_refused : (h : Header) (number : ℕ) → (number ≡ 0 → ⊥) → said number h ≡ refused_line number
 unfolding said
 said_refused h number n = grind (arith, nat_tests)
+
+-- where reading refuses, work is untouched after it
+reading_keeps_work : (e work : List ℕ) → (read_number e ≡ 0 → ⊥) → work_after (read_number e) work ≡ work
+unfolding read_number header_number work_after
+reading_keeps_work e work n = grind (arith, nat_tests)
 
 -- where reading says 0 the sizes are those that verifying asks for
 verify_right : (e work : List ℕ) → read_number e ≡ 0 → work_length ≤ length work
@@ -58,12 +63,22 @@ module _ (e : List ℕ) where
   genuine_clip z = sym (said_genuine (header_of e) (clip_number e) z)
 
   -- reading refuses
-  pub report_unread : (refusal : Refusal) → read_ended (refusal_number refusal) (header 0 0 0) ≡ read_outcome e → refused_line (refusal_number refusal) ≡ clip_line e
+  number_unread : (read_number e ≡ 0 → ⊥) → clip_number e ≡ read_number e
   unfolding clip_number
-  report_unread refusal read =
-      let positive = refusal_from_one refusal in
-      let number = told_number e _ read in
-      refused_clip refusal (number ∙ sym (or_else_refused (read_number e) _ (λ z. omega arith)))
+  number_unread n = or_else_refused (read_number e) _ n
+
+  module _ (refusal : Refusal) (read : read_ended (refusal_number refusal) (header 0 0 0) ≡ read_outcome e) where
+    not-0 : read_number e ≡ 0 → ⊥
+    not-0 z =
+        let positive = refusal_from_one refusal in
+        let number = told_number e _ read in
+        omega arith
+
+    pub report_unread : refused_line (refusal_number refusal) ≡ clip_line e
+    report_unread = refused_clip refusal (told_number e _ read ∙ sym (number_unread not-0))
+
+    pub work_unread : (work : List ℕ) → work ≡ work_after (clip_number e) work
+    work_unread work = sym (ap (λ (k : ℕ). work_after k work) (number_unread not-0) ∙ reading_keeps_work e work not-0)
 
   -- the number of reading, where an answer is the header
   pub read_legal : (h : Header) → read_ended 0 h ≡ read_outcome e → read_number e ≡ 0
@@ -76,11 +91,16 @@ module _ (e : List ℕ) where
     same_header : h ≡ header_of e
     same_header = told_header e _ read (read_legal h read)
 
+    told : verify_ended n workAfter ≡ verify_outcome (header_of e).set (key_bytes e) (message_bytes e) (signature_bytes e) work
+    told = cc same_header
+
     number_verified : n ≡ clip_number e
     unfolding verify_outcome
-    number_verified =
-        let told : verify_ended n workAfter ≡ verify_outcome (header_of e).set (key_bytes e) (message_bytes e) (signature_bytes e) work = cc same_header in
-        ap (λ (o : VerifyOutcome). o.number) told ∙ verified_number e work (read_legal h read) room
+    number_verified = ap (λ (o : VerifyOutcome). o.number) told ∙ verified_number e work (read_legal h read) room
+
+    pub work_verified : workAfter ≡ work_after (clip_number e) work
+    unfolding verify_outcome
+    work_verified = ap (λ (o : VerifyOutcome). o.work) told ∙ ap (λ (k : ℕ). work_after k work) (verified_number e work (read_legal h read) room)
 
     pub report_refused : (refusal : Refusal) → refusal_number refusal ≡ n → refused_line (refusal_number refusal) ≡ clip_line e
     report_refused refusal same = refused_clip refusal (same ∙ number_verified)

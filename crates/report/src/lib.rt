@@ -5,9 +5,9 @@
 
 ghost use Rattle.std.specs.Prelude.{◌≡◌, ◌+◌, ◌≤◌, length, take};
 ghost use Rattle.memory.specs.Lists.{over, put};
-ghost use Rattle.refusals.specs.Refusals.{work_length};
+ghost use Rattle.refusals.specs.Refusals.{work_length, work_after};
 ghost use Rattle.report.specs.Decimal.{decimal};
-ghost use Rattle.report.specs.Report.{genuine_line, refused_line, answer_line, clip_line};
+ghost use Rattle.report.specs.Report.{genuine_line, refused_line, answer_line, clip_number, clip_line};
 
 use envelope::Header;
 use refusals::{Refusal, WORK};
@@ -23,14 +23,15 @@ pub fn clip_line(input: &[u8; INPUT], n: usize, line: &mut [u8; ROOM]) -> usize
     ensures { (result ≡ length (clip_line (take n input.now))) × (line.new ≡ over (clip_line (take n input.now)) line.old) }
 {
     let mut work = [0u8; WORK];
-    let answer = genuine_header(&input[..n.min(INPUT)], &mut work);
+    let answer = genuine_header(&input[..memory::lesser(n, INPUT)], &mut work);
     lay_out(answer, line)
 }
 
 // The header of a genuine clip: reading the envelope, then verifying it, for which work is lent.
 fn genuine_header(input: &[u8], work: &mut [u8]) -> Result<Header, Refusal>
     requires { work_length ≤ length work.old }
-    ensures { answer_line result ≡ clip_line input.now }
+    ensures line { answer_line result ≡ clip_line input.now }
+    ensures work { work.new ≡ work_after (clip_number input.now) work.old }
 {
     let header = envelope::read(input)?;
     let key = envelope::public_key_of(input);

@@ -78,8 +78,11 @@ pub fn signature_len(set: usize) -> usize
 }
 
 // The row of a set; that of zeros where the number names none.
+#[tactic(auto, using(crate::proofs::Laws::no_such_row))]
 fn row_of(set: usize) -> Row
     ensures { RowOf set result }
 {
-    if set < SETS.len() { SETS[set] } else { SETS[0] }
+    // Borrowed, the table stays where it is; used by its name, all of it would be laid on the stack at each call.
+    let rows = &SETS;
+    if set < rows.len() { rows[set] } else { rows[0] }
 }

@@ -44,7 +44,7 @@ pub fn sign(
     if consistent {
         write(p, sk, message, random, secret, signature, work);
     }
-    secret.fill(0);
+    memory::clear(secret);
     consistent
 }
 

@@ -45,7 +45,7 @@ impl Sponge {
         let mut at = self.at % RATE;
         let mut rest = bytes;
         while !rest.is_empty() {
-            let n = (RATE - at).min(rest.len());
+            let n = memory::lesser(RATE - at, rest.len());
             let (part, later) = rest.split_at(n);
             part::xor(&mut lanes, at, part);
             at = turn(&mut lanes, at + n);
@@ -79,7 +79,7 @@ impl Tape {
         // Stays: going down `out` by `split_at_mut`, as `absorb` does, was tried, and the proof did not close: nothing is known of what `out` then ends as.
         while i < out.len() {
             at = turn(&mut lanes, at);
-            let n = (RATE - at).min(out.len() - i);
+            let n = memory::lesser(RATE - at, out.len() - i);
             part::give(&lanes, at, &mut out[i..i + n]);
             at += n;
             i += n;

@@ -27,7 +27,7 @@ fn lanes_in(at: usize, n: usize) -> (usize, usize)
     ensures from { result.0 ≡ min ((8 - at % 8) % 8) n }
     ensures to { result.1 ≡ result.0 + (n - result.0) / 8 * 8 }
 {
-    let from = ((8 - at % 8) % 8).min(n);
+    let from = memory::lesser((8 - at % 8) % 8, n);
     (from, from + (n - from) / 8 * 8)
 }
 

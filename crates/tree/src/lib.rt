@@ -57,7 +57,7 @@ pub fn rebuild(of: Salted<'_>, path: &[u8], l: usize, hidden: usize, s: usize, o
     requires { (s ≤ 32) × (l ≤ 8) × (1 ≤ hidden) × (hidden ≤ 2 ^ l) × (length path.now ≡ l * s) × (length out.old ≡ 2 ^ l * s) }
     ensures { out.new ≡ flatten (filled (replicate s 0) (get_path_seeds (children s of.entry.salt.now of.entry.e) l (pieces s l path.now) hidden)) }
 {
-    out[0..s].fill(0);
+    memory::clear(&mut out[0..s]);
     for k in 0..l {
         let p = (hidden - 1) >> (l - 1 - k);
         Level { of, k, s }.split_around(1 << k, p, &path[k * s..k * s + s], out);
@@ -121,7 +121,7 @@ fn place(own: &[u8], p: usize, s: usize, out: &mut [u8])
     let beside = sibling(p) * s;
     memory::copy(own, &mut out[beside..beside + s]);
     let at = p * s;
-    out[at..at + s].fill(0);
+    memory::clear(&mut out[at..at + s]);
 }
 
 // The sibling's position: the other child of the same parent.

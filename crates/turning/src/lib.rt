@@ -29,7 +29,7 @@ pub fn transpose(x: &[u64], y: &mut [u64])
     let b = turn::stage::<4>(&a, turn::EVEN4);
     let c = turn::stage::<2>(&b, turn::EVEN2);
     let d = turn::stage::<1>(&c, turn::EVEN1);
-    y.copy_from_slice(&d);
+    lanes::copy_words(&d, y);
 }
 
 // Lanes back to packed bytes: the sixteen vectors, one in each lane, packed together in party order. Later bytes are kept.

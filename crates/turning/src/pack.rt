@@ -9,8 +9,8 @@ pub fn turn_back(words: &[u64], padded: &mut [u64], turned: &mut [u64])
 {
     let m = words.len();
     let n = (m + 15) / 16 * 16;
-    memory::copy(words, padded);
-    memory::copy(&words[m - 16..m], &mut padded[n..n + 16]);
+    lanes::copy_words(words, padded);
+    lanes::copy_words(&words[m - 16..m], &mut padded[n..n + 16]);
     crate::to_lanes(&padded[0..n + 16], &mut turned[0..n + 16]);
 }
 

@@ -43,7 +43,7 @@ fn read_whole(bytes: &[u8], at: usize, i: usize, out: &mut [u8]) -> usize
     if bytes.len() <= a {
         return i;
     }
-    let w = ((out.len() - i) / 2).min(bytes.len() - a);
+    let w = memory::lesser((out.len() - i) / 2, bytes.len() - a);
     let e = a + w;
     let f = i + w * 2;
     halves(&bytes[a..e], &mut out[i..f]);

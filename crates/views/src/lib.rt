@@ -74,7 +74,7 @@ impl<'b> Leaves<'_, 'b> {
         requires { length sums.old ≤ 181 }
         ensures { sums.new ≡ tape_sum self.entry.of.salt.now self.entry.of.e (length sums.old) (pieces self.entry.size self.entry.count self.entry.seeds.now) }
     {
-        sums.fill(0);
+        memory::clear(sums);
         for i in 0..self.count {
             self.add_tape(i, sums);
         }

@@ -4,4 +4,4 @@ use Rattle.calls.proofs.clear_work.Goals as goal
 
 pub returns : goal.returns
 returns c =
-    work-cleared c.args.work.now _ _ c.work_len-n.ensures c.requires (c.fill.ensures.after (λ y e. e))
+    work-cleared c.args.work.now _ _ c.work_len-n.ensures c.requires c.clear.ensures

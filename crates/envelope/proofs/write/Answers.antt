@@ -24,6 +24,7 @@ returns c =
     let m = r.room in
     write_done a.set a.public_key.now a.signature.now a.message.now a.envelope.now _ (sym c.in_ok-write_sizes.ensures)
     (four_parts a.set a.envelope.now c.to_bytes-first.result a.public_key.now a.signature.now a.message.now
-    _ _ _ _ _ _ _
+    c.copy.new.dst c.copy-2.new.dst c.copy-3.new.dst c.copy-4.new.dst
+    _ _ _
     (c.to_bytes-first.ensures ∙ ap header_bytes c.written.ensures) refl refl refl (omega arith)
-    c.copy_from_slice.ensures.after c.copy_from_slice-2.ensures.after c.copy_from_slice-3.ensures.after c.copy_from_slice-4.ensures.after)
+    c.copy.ensures c.copy-2.ensures c.copy-3.ensures c.copy-4.ensures)

@@ -16,10 +16,10 @@ nonzero_rem-result c =
 
 pub overflow_add-result : goal.overflow_add-result
 overflow_add-result c =
-    let m = mod-le c.from-b.result (1 * 2 ^ c.args.l % 2 ^ 64) in
+    let m = mod-le c.wide-b.result (1 * 2 ^ c.args.l % 2 ^ 64) in
     omega arith
 
 pub returns : goal.returns
 unfolding hidden_in
 returns c =
-    ap₂ (λ (b d : ℕ). b % d + 1) c.from-b.ensures (shifted_one c.args.l c.requires.0)
+    ap₂ (λ (b d : ℕ). b % d + 1) c.wide-b.ensures.0 (shifted_one c.args.l c.requires.0)

@@ -12,4 +12,4 @@ pub returns : goal.returns
 returns c =
     let b = c.split_at_mut-first.ensures.back_len in
     let size : length c.split_at_mut-first.result.1.now ≡ packed_length (length c.args.t.now) = omega arith in
-    ap₂ ◌++◌ c.copy_from_slice.ensures.after (c.pack_into.ensures ∙ over-whole _ _ (length-pack c.args.t.now ∙ sym size))
+    ap₂ ◌++◌ (c.copy.ensures ∙ over-whole _ _ (sym c.split_at_mut-first.ensures.front_len)) (c.pack_into.ensures ∙ over-whole _ _ (length-pack c.args.t.now ∙ sym size))

@@ -15,13 +15,13 @@ genuine_header-answer-requires c =
 
 pub lay_out-requires : goal.lay_out-requires
 lay_out-requires c =
-    let e = ap length c.genuine_header-answer.ensures in
-    let f = line_fits (take c.min.result c.args.input.now) in
+    let e = ap length c.genuine_header-answer.ensures.line in
+    let f = line_fits (take c.lesser.result c.args.input.now) in
     omega arith
 
 pub returns : goal.returns
 returns c =
     let w = c.lay_out in
-    let l = c.min in
-    let same = c.genuine_header-answer.ensures ∙ ap clip_line (part_read c.args.n l.result 65536 c.args.input.now (omega (arith, c.well_formed)) l.ensures) in
+    let l = c.lesser in
+    let same = c.genuine_header-answer.ensures.line ∙ ap clip_line (part_read c.args.n l.result 65536 c.args.input.now (omega (arith, c.well_formed)) l.ensures) in
     (w.ensures.0 ∙ ap length same, w.ensures.1 ∙ ap (λ (x : List ℕ). over x c.args.line.now) same)

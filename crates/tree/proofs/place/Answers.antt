@@ -9,11 +9,11 @@ use Rattle.tree.proofs.place.Goals as goal
 pub slice_bounds-copy-end : goal.slice_bounds-copy-end
 slice_bounds-copy-end c = let a = c.args in let r = child_room c.sibling.result a.p a.s (length a.out.now) c.sibling.ensures.1 (omega arith) in omega arith
 
-pub slice_bounds-fill-end : goal.slice_bounds-fill-end
-slice_bounds-fill-end c = let a = c.args in let r = child_room a.p a.p a.s (length a.out.now) refl (omega arith) in omega arith
+pub slice_bounds-clear-end : goal.slice_bounds-clear-end
+slice_bounds-clear-end c = let a = c.args in let r = child_room a.p a.p a.s (length a.out.now) refl (omega arith) in omega arith
 
 pub returns : goal.returns
 returns c =
     let a = c.args in
-    placed a.p a.s c.sibling.result a.own.now a.out.now c.copy.new.dst _ c.fill.new.self
-    c.sibling.ensures.0 (omega arith) (omega arith) c.copy.ensures refl (c.fill.ensures.after (λ y e. e))
+    placed a.p a.s c.sibling.result a.own.now a.out.now c.copy.new.dst _ c.clear.new.dst
+    c.sibling.ensures.0 (omega arith) (omega arith) c.copy.ensures refl c.clear.ensures

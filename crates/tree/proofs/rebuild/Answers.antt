@@ -14,10 +14,10 @@ pub loop-k-init : goal.loop-k-init
 unfolding coded_at
 loop-k-init c =
     let a = c.args in
-    let m = c.fill in
+    let m = c.clear in
     let h : a.s ≤ length a.out.now = (let r = seed-room a.s a.l in omega arith) in (
-      length-cleared a.s a.out.now m.new.self h m.auto.self ∙ (let t : length a.out.now ≡ 2 ^ a.l * a.s = omega arith in t),
-      blank_lies a.s a.out.now m.new.self h (m.ensures.after (λ y e. e)),
+      length-cleared a.s a.out.now m.new.dst h m.auto.dst ∙ (let t : length a.out.now ≡ 2 ^ a.l * a.s = omega arith in t),
+      blank_lies a.s a.out.now m.new.dst h m.ensures,
     )
 
 pub split_around-requires : goal.split_around-requires

@@ -15,8 +15,8 @@ returns c =
     let out = c.args.out.now in
     let i = c.args.i in
     let a = (c.args.at + i) / 2 in
-    let w = c.min-w.result in
-    let fits = whole_fits (length out) i _ w c.requires.1 c.min-w.ensures in (
+    let w = c.lesser-w.result in
+    let fits = whole_fits (length out) i _ w c.requires.1 c.lesser-w.ensures in (
       fits,
       read_part c.args.bytes.now c.args.at i a (a + w) (i + w * 2) _ out _ _ c.requires.1 (whole-even (c.args.at + i) c.if-at-i-eq1.false) (le-add i (w * 2)) (whole_size i a w)
           (length-lent out i (i + w * 2) (le-add i (w * 2)) fits) c.halves.ensures,

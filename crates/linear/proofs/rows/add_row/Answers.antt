@@ -19,9 +19,9 @@ loop-i-preserved g c =
     let sums = c.args.sums.now in
     let fits = c.type_inv.row l.i in
     let small : get_or row l.i 0 < 256 = omega arith in
-    let from = c.from.ensures in
-    let picked = get_or_read sums (l.i * 256 + c.from.result) c.index-sums-i.result (omega arith) c.index-sums-i.is v.zero in
+    let wide = c.wide.ensures.0 in
+    let picked = get_or_read sums (l.i * 256 + c.wide.result) c.index-sums-i.result (omega arith) c.index-sums-i.is v.zero in
     λ s a m.
     subst (RowAdded v row 0 s a ((l.i + 1) * 2) c.args.word)
-    (sym (c.plus-sum.ensures ∙ ap (v.sum l.sum) (picked ∙ ap (λ (b : ℕ). get_or sums (l.i * 256 + b) v.zero) from)))
+    (sym (c.plus-sum.ensures ∙ ap (v.sum l.sum) (picked ∙ ap (λ (b : ℕ). get_or sums (l.i * 256 + b) v.zero) wide)))
     (row_more v g.met.W.Word.adds row s sums a (length row) l.i c.args.word l.sum m c.loop-i-test.true small (l.invariant s a m))

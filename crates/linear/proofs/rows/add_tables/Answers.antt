@@ -55,16 +55,16 @@ loop-block-preserved g c =
     let t = c.args.tables.now in
     let s = c.args.words.now in
     let l = c.loop-block in
-    let n = c.min-count.result in
+    let n = c.lesser-count.result in
     let i = l.invariant in
     let pairs = c.fill.ensures in
     let h = reached t.first.width B l.block c.div_ceil-block-end.result c.requires.3 c.div_ceil-block-end.ensures c.loop-block-test.true in
     record {
       wide = refl;
-      first = next v t.first.bytes.now t.first.width t.first.width B l.block n s c.args.x.now l.x c.add_rows.new.out h c.min-count.ensures l.auto.x i.first
+      first = next v t.first.bytes.now t.first.width t.first.width B l.block n s c.args.x.now l.x c.add_rows.new.out h c.lesser-count.ensures l.auto.x i.first
           (c.add_rows.ensures s (l.block * B * 2) pairs);
-      second = next v t.second.bytes.now t.second.width t.first.width B l.block n s c.args.y.now l.y c.add_rows-in-loop-block.new.out h c.min-count.ensures l.auto.y i.second
+      second = next v t.second.bytes.now t.second.width t.first.width B l.block n s c.args.y.now l.y c.add_rows-in-loop-block.new.out h c.lesser-count.ensures l.auto.y i.second
           (c.add_rows-in-loop-block.ensures s (l.block * B * 2) pairs);
-      third = next v t.third.bytes.now t.third.width t.first.width B l.block n s c.args.z.now l.z c.add_rows-in-loop-block-2.new.out h c.min-count.ensures l.auto.z i.third
+      third = next v t.third.bytes.now t.third.width t.first.width B l.block n s c.args.z.now l.z c.add_rows-in-loop-block-2.new.out h c.lesser-count.ensures l.auto.z i.third
           (c.add_rows-in-loop-block-2.ensures s (l.block * B * 2) pairs);
     }

@@ -12,5 +12,5 @@ loop-c-preserved g c =
     let high = c.word_or_zero-in-loop-c in
     let l = c.loop-c in
     let a = c.args in
-    pairs_lent g.W.Word.view a.words.now l.sums c.fill_one.new.out a.at l.c low.result high.result l.invariant low.ensures high.ensures c.fill_one.ensures
-    c.fill_one.auto.out (omega arith)
+    pairs_lent g.W.Word.view a.words.now l.sums c.fill_one.new.out a.at l.c _ _ low.result high.result l.invariant low.ensures high.ensures (omega arith) (omega arith)
+    c.fill_one.ensures c.fill_one.auto.out (omega arith)

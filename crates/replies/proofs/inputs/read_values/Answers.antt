@@ -32,8 +32,8 @@ returns c =
     let m = t.basis.p.m in
     let k = c.requires.2 in
     values_lent t.basis.p t.e _ _ _ _ _ _ _ (width-packed _ _ c.div_ceil-width.ensures) c.layout_of-map.ensures.challenges refl
-    (filled_values c.read_elements.new.out c.unpack_into.new.out c.copy_from_slice.new.self c.fill.new.self c.args.values.now _ _ _ _
+    (filled_values c.read_elements.new.out c.unpack_into.new.out c.copy.new.dst c.clear.new.dst c.args.values.now _ _ _ _
     (n + m) (n + m + m) (n + m + m + m) (n + m + m + m + m) (omega arith) (omega arith) (omega arith) (omega arith) refl refl refl refl
-    c.read_elements.auto.out c.unpack_into.auto.out c.copy_from_slice.auto.self c.fill.auto.self
+    c.read_elements.auto.out c.unpack_into.auto.out c.copy.auto.dst c.clear.auto.dst
     t.basis.p t.e t.basis.secret.now c.args.packing.now _ t.basis.whole refl (omega arith) (omega arith) (omega arith)
-    c.read_elements.ensures c.unpack_into.ensures c.copy_from_slice.ensures.after (c.fill.ensures.after (λ y e. e)))
+    c.read_elements.ensures c.unpack_into.ensures c.copy.ensures c.clear.ensures)

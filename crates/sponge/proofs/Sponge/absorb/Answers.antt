@@ -24,7 +24,7 @@ loop-rest-preserved c =
     let r = sponge t.new.lanes t.result in (
       turned-place _ _ r t.ensures.sponge,
       ap (absorbed r) part.ensures.back
-          ∙ absorb_turn l.lanes l.rest.now l.at _ _ r l.invariant.0 c.min-n.ensures (c.xor.ensures ∙ ap (xor_bytes l.lanes l.at) part.ensures.front) t.ensures.sponge
+          ∙ absorb_turn l.lanes l.rest.now l.at _ _ r l.invariant.0 c.lesser-n.ensures (c.xor.ensures ∙ ap (xor_bytes l.lanes l.at) part.ensures.front) t.ensures.sponge
           ∙ l.invariant.1,
     )
 

@@ -31,7 +31,7 @@ loop-i-preserved c =
     let l = c.loop-i in
     let t = c.turn-at in
     let r = tape t.new.lanes t.result in
-    let n = c.min-n in (
+    let n = c.lesser-n in (
       omega arith,
       squeeze_given c.args.self l.i n.result l.out (tape l.lanes l.at) r (omega arith) t.ensures.tape (n.ensures) l.invariant.2 c.give.new.out l.invariant.1 c.give.ensures,
       squeeze_moved c.args.self l.i n.result l.out (tape l.lanes l.at) r (omega arith) t.ensures.tape (n.ensures) l.invariant.2,

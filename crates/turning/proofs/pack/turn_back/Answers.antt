@@ -12,8 +12,8 @@ use Rattle.turning.proofs.pack.turn_back.Goals as goal
 
 pub returns : goal.returns
 returns c =
-    let copied = c.copy in
-    let ending = c.copy-2 in
+    let copied = c.copy_words in
+    let ending = c.copy_words-2 in
     let lanes = c.to_lanes in
     let words = c.args.words.now in
     let m = length words in
